@@ -1,0 +1,32 @@
+-- Each byte is below 256, so the sum of the four fits, and it is the word by definition.
+use borrow.Author.Needs.{needs}
+use Rattle.words.specs.Bytes.{wordAt}
+use Rattle.words.proofs.bytes.word_at.Statement.{statement}
+use Rattle.words.proofs.bytes.word_at.Tie as tie
+
+returns : tie.Need-returns
+unfolding wordAt
+returns c = search needs
+
+pub word-at-spec : {M : Type 1} → statement M
+word-at-spec =
+    tie.close
+    (tie.spec
+    (λ c. search needs)
+    (λ c κs. search needs)
+    (λ c. search needs)
+    (λ c. search needs)
+    (λ c κs. search needs)
+    (λ c. search needs)
+    (λ c. search needs)
+    (λ c. search needs)
+    (λ c. search needs)
+    (λ c κs. search needs)
+    (λ c. search needs)
+    (λ c. search needs)
+    (λ c. search needs)
+    (λ c. search needs)
+    (λ c κs. search needs)
+    (λ c. search needs)
+    (λ c. search needs)
+    returns)
