@@ -1,0 +1,2 @@
+mod Choices
+mod Listed

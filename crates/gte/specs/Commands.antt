@@ -1,0 +1,168 @@
+-- The 22 commands on the 64 words.
+use mathlib.Core.Bool.{Bool, true, false}
+use mathlib.Core.List.{List, [], _∷_, _++_}
+use Prim.Native.Nat.{ℕ, _+_, _/_, _%_}
+use lib.IntN.{pos, _*ℤ_}
+use lib.Dec.{eqb}
+use Rattle.gte_arithmetic.specs.Checks.{Check, bitAt}
+use Rattle.gte_arithmetic.specs.Values.{mac0Checks}
+use Rattle.gte_effects.specs.Effects.{lineLeft, shadeLeft, shadesLeft, vertexLeft, verticesLeft, windingLeft, averageLeft}
+use Rattle.gte_projection.specs.Depth.{windingOf, averageChecks, averageOf}
+use Rattle.gte_colour.specs.Shade.{shadeChecks}
+use Rattle.gte_registers.specs.Registers.{reads}
+use Rattle.gte_inputs.specs.Inputs.{Inputs, inputsOf}
+use Rattle.gte.specs.Values.{vertexAt, vertexChecksAt, mvmvaOf, mvmvaChecks, squareOf, squareChecks, outerOf, outerChecks}
+use Rattle.gte_shading.specs.Shading.{ncsOf, ncsChecks, nccsOf, nccsChecks, ncdsOf, ncdsChecks, ccOf, ccChecks, cdpOf, cdpChecks, depthCuedChecks, dcplFrom, dcplOf, intplFrom, intplOf, dpcsFrom, dpcsOf, dpctFrom, dpctOf, gpfFrom, gpfOf, gplFrom, gplOf}
+use Rattle.gte.specs.declared.command.Outcome.{Outcome}
+use Rattle.gte.specs.declared.command.Outcome.the-variants.{Done, Unlisted}
+
+-- ---- the command word
+abbrev pub sfOf : ℕ → Bool
+sfOf word = bitAt 19 word
+
+abbrev pub lmOf : ℕ → Bool
+lmOf word = bitAt 10 word
+
+abbrev pub mxOf : ℕ → ℕ
+mxOf word = word / 131072 % 4
+
+abbrev pub vOf : ℕ → ℕ
+vOf word = word / 32768 % 4
+
+abbrev pub cvOf : ℕ → ℕ
+cvOf word = word / 8192 % 4
+
+pub data Command : Type 0 where
+  RTPS : Command
+  NCLIP : Command
+  OP : Command
+  DPCS : Command
+  INTPL : Command
+  MVMVA : Command
+  NCDS : Command
+  CDP : Command
+  NCDT : Command
+  NCCS : Command
+  CC : Command
+  NCS : Command
+  NCT : Command
+  SQR : Command
+  DCPL : Command
+  DPCT : Command
+  AVSZ3 : Command
+  AVSZ4 : Command
+  RTPT : Command
+  GPF : Command
+  GPL : Command
+  NCCT : Command
+  unlisted : Command
+
+infix 20 _⇒_
+pub data Row : Type 0 where
+  _⇒_ : ℕ → Command → Row
+
+-- by the low six bits
+unfoldable pub commands : List Row
+commands =
+    (0x01 ⇒ RTPS) ∷ (0x06 ⇒ NCLIP) ∷ (0x0c ⇒ OP) ∷ (0x10 ⇒ DPCS) ∷ (0x11 ⇒ INTPL) ∷ (0x12 ⇒ MVMVA)
+    ∷ (0x13 ⇒ NCDS) ∷ (0x14 ⇒ CDP) ∷ (0x16 ⇒ NCDT) ∷ (0x1b ⇒ NCCS) ∷ (0x1c ⇒ CC) ∷ (0x1e ⇒ NCS)
+    ∷ (0x20 ⇒ NCT) ∷ (0x28 ⇒ SQR) ∷ (0x29 ⇒ DCPL) ∷ (0x2a ⇒ DPCT) ∷ (0x2d ⇒ AVSZ3) ∷ (0x2e ⇒ AVSZ4)
+    ∷ (0x30 ⇒ RTPT) ∷ (0x3d ⇒ GPF) ∷ (0x3e ⇒ GPL) ∷ (0x3f ⇒ NCCT) ∷ []
+
+abbrev pub choose : Bool → Command → Command → Command
+choose true a b = a
+choose false a b = b
+
+abbrev pub commandIn : List Row → ℕ → Command
+commandIn [] n = unlisted
+commandIn ((k ⇒ c) ∷ rows) n = choose (eqb n k) c (commandIn rows n)
+
+-- ---- each command, from the words before it
+unfoldable pub leaves : Command → Bool → Bool → ℕ → Inputs → List ℕ → List ℕ
+leaves RTPS sf lm word i w = vertexLeft (vertexAt sf i 0) w
+leaves NCLIP sf lm word i w = windingLeft (windingOf (i .sxy0) (i .sxy1) (i .sxy2)) w
+leaves OP sf lm word i w = lineLeft (outerOf sf lm i) w
+leaves DPCS sf lm word i w = shadeLeft (dpcsOf sf lm i) w
+leaves INTPL sf lm word i w = shadeLeft (intplOf sf lm i) w
+leaves MVMVA sf lm word i w = lineLeft (mvmvaOf sf lm (mxOf word) (vOf word) (cvOf word) i) w
+leaves NCDS sf lm word i w = shadeLeft (ncdsOf sf lm i 0) w
+leaves CDP sf lm word i w = shadeLeft (cdpOf sf lm i) w
+leaves NCDT sf lm word i w = shadesLeft (ncdsOf sf lm i 0) (ncdsOf sf lm i 1) (ncdsOf sf lm i 2) w
+leaves NCCS sf lm word i w = shadeLeft (nccsOf sf lm i 0) w
+leaves CC sf lm word i w = shadeLeft (ccOf sf lm i) w
+leaves NCS sf lm word i w = shadeLeft (ncsOf sf lm i 0) w
+leaves NCT sf lm word i w = shadesLeft (ncsOf sf lm i 0) (ncsOf sf lm i 1) (ncsOf sf lm i 2) w
+leaves SQR sf lm word i w = lineLeft (squareOf sf lm i) w
+leaves DCPL sf lm word i w = shadeLeft (dcplOf sf lm i) w
+leaves DPCT sf lm word i w = shadesLeft (dpctOf sf lm i 0) (dpctOf sf lm i 1) (dpctOf sf lm i 2) w
+leaves AVSZ3 sf lm word i w = averageLeft (averageOf (i .zsf3) (i .sz1 + i .sz2 + i .sz3)) w
+leaves AVSZ4 sf lm word i w = averageLeft (averageOf (i .zsf4) (i .sz0 + i .sz1 + i .sz2 + i .sz3)) w
+leaves RTPT sf lm word i w = verticesLeft (vertexAt sf i 0) (vertexAt sf i 1) (vertexAt sf i 2) w
+leaves GPF sf lm word i w = shadeLeft (gpfOf sf lm i) w
+leaves GPL sf lm word i w = shadeLeft (gplOf sf lm i) w
+leaves NCCT sf lm word i w = shadesLeft (nccsOf sf lm i 0) (nccsOf sf lm i 1) (nccsOf sf lm i 2) w
+leaves unlisted sf lm word i w = w
+
+-- every check that a command makes, part after part
+unfoldable pub checksOf : Command → Bool → Bool → ℕ → Inputs → List Check
+checksOf RTPS sf lm word i = vertexChecksAt sf i 0
+checksOf NCLIP sf lm word i = mac0Checks 1 (windingOf (i .sxy0) (i .sxy1) (i .sxy2)) []
+checksOf OP sf lm word i = outerChecks sf lm i
+checksOf DPCS sf lm word i = depthCuedChecks sf lm i (dpcsFrom i)
+checksOf INTPL sf lm word i = depthCuedChecks sf lm i (intplFrom i)
+checksOf MVMVA sf lm word i = mvmvaChecks sf lm (mxOf word) (vOf word) (cvOf word) i
+checksOf NCDS sf lm word i = ncdsChecks sf lm i 0
+checksOf CDP sf lm word i = cdpChecks sf lm i
+checksOf NCDT sf lm word i = ncdsChecks sf lm i 0 ++ (ncdsChecks sf lm i 1 ++ ncdsChecks sf lm i 2)
+checksOf NCCS sf lm word i = nccsChecks sf lm i 0
+checksOf CC sf lm word i = ccChecks sf lm i
+checksOf NCS sf lm word i = ncsChecks sf lm i 0
+checksOf NCT sf lm word i = ncsChecks sf lm i 0 ++ (ncsChecks sf lm i 1 ++ ncsChecks sf lm i 2)
+checksOf SQR sf lm word i = squareChecks sf lm i
+checksOf DCPL sf lm word i = depthCuedChecks sf lm i (dcplFrom i)
+checksOf DPCT sf lm word i = depthCuedChecks sf lm i (dpctFrom i 0) ++ (depthCuedChecks sf lm i (dpctFrom i 1) ++ depthCuedChecks sf lm i (dpctFrom i 2))
+checksOf AVSZ3 sf lm word i = averageChecks 1 (i .zsf3 *ℤ pos (i .sz1 + i .sz2 + i .sz3))
+checksOf AVSZ4 sf lm word i = averageChecks 2 (i .zsf4 *ℤ pos (i .sz0 + i .sz1 + i .sz2 + i .sz3))
+checksOf RTPT sf lm word i = vertexChecksAt sf i 0 ++ (vertexChecksAt sf i 1 ++ vertexChecksAt sf i 2)
+checksOf GPF sf lm word i = shadeChecks 3 4 sf lm (gpfFrom i)
+checksOf GPL sf lm word i = shadeChecks 3 4 sf lm (gplFrom sf i)
+checksOf NCCT sf lm word i = nccsChecks sf lm i 0 ++ (nccsChecks sf lm i 1 ++ nccsChecks sf lm i 2)
+checksOf unlisted sf lm word i = []
+
+abbrev pub listed : Command → Outcome
+listed RTPS = Done
+listed NCLIP = Done
+listed OP = Done
+listed DPCS = Done
+listed INTPL = Done
+listed MVMVA = Done
+listed NCDS = Done
+listed CDP = Done
+listed NCDT = Done
+listed NCCS = Done
+listed CC = Done
+listed NCS = Done
+listed NCT = Done
+listed SQR = Done
+listed DCPL = Done
+listed DPCT = Done
+listed AVSZ3 = Done
+listed AVSZ4 = Done
+listed RTPT = Done
+listed GPF = Done
+listed GPL = Done
+listed NCCT = Done
+listed unlisted = Unlisted
+
+-- whether there is such a command: carried out, or not listed
+unfoldable pub outcomeOf : ℕ → Outcome
+outcomeOf word = listed (commandIn commands (word % 64))
+
+abbrev pub ifDone : Outcome → List ℕ → List ℕ → List ℕ
+ifDone Done a w = a
+ifDone Unlisted a w = w
+
+-- the words that a command leaves; one that is not listed changes nothing
+unfoldable pub commandOf : ℕ → List ℕ → List ℕ
+commandOf word w =
+    ifDone (outcomeOf word) (reads (leaves (commandIn commands (word % 64)) (sfOf word) (lmOf word) word (inputsOf w) w)) w

@@ -1,0 +1,4 @@
+pub mod Checks
+pub mod Values
+pub mod Sums
+pub mod Line

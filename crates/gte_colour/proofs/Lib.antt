@@ -1,0 +1,2 @@
+mod Widen
+mod Three

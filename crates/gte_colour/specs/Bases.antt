@@ -1,0 +1,48 @@
+-- The exact values from which the colour commands, SQR and OP start: what stands in 001's lines before MAC is stored.
+use mathlib.Core.Bool.{Bool}
+use Prim.Native.Nat.{ℕ, _*_, _/_, _%_}
+use lib.IntN.{ℤ, pos, _+ℤ_, _-ℤ_, _*ℤ_}
+use Rattle.gte_arithmetic.specs.Values.{scale}
+use Rattle.gte_arithmetic.specs.declared.sums.Vector.{Vector}
+use Rattle.gte_arithmetic.specs.declared.sums.Long.{Long}
+use Rattle.gte_arithmetic.specs.declared.sums.Wide.{Wide}
+
+-- R, G and B of a colour word
+abbrev pub red : ℕ → ℕ
+red c = c % 256
+
+abbrev pub green : ℕ → ℕ
+green c = c / 256 % 256
+
+abbrev pub blue : ℕ → ℕ
+blue c = c / 65536 % 256
+
+-- [R·IR1, G·IR2, B·IR3] SHL 4
+unfoldable pub tonesOf : ℕ → Vector → Wide
+tonesOf c i = record { x = pos (red c) *ℤ i .x *ℤ pos 16; y = pos (green c) *ℤ i .y *ℤ pos 16; z = pos (blue c) *ℤ i .z *ℤ pos 16 }
+
+-- [R, G, B] SHL 16
+unfoldable pub levelsOf : ℕ → Wide
+levelsOf c = record { x = pos (red c * 65536); y = pos (green c * 65536); z = pos (blue c * 65536) }
+
+-- [IR1, IR2, IR3] SHL 12
+unfoldable pub raisedOf : Vector → Wide
+raisedOf i = record { x = i .x *ℤ pos 4096; y = i .y *ℤ pos 4096; z = i .z *ℤ pos 4096 }
+
+-- [IR1, IR2, IR3] · IR0, for GPF
+unfoldable pub scaledOf : Vector → ℤ → Wide
+scaledOf i f = record { x = i .x *ℤ f; y = i .y *ℤ f; z = i .z *ℤ f }
+
+-- the same plus [MAC1, MAC2, MAC3] SHL (sf·12), for GPL
+unfoldable pub scaledFrom : Vector → ℤ → Long → Bool → Wide
+scaledFrom i f m sf =
+    record { x = i .x *ℤ f +ℤ m .x *ℤ pos (scale sf); y = i .y *ℤ f +ℤ m .y *ℤ pos (scale sf); z = i .z *ℤ f +ℤ m .z *ℤ pos (scale sf) }
+
+-- [IR1·IR1, IR2·IR2, IR3·IR3], for SQR
+unfoldable pub squaresOf : Vector → Wide
+squaresOf i = record { x = i .x *ℤ i .x; y = i .y *ℤ i .y; z = i .z *ℤ i .z }
+
+-- [IR3·D2 - IR2·D3, IR1·D3 - IR3·D1, IR2·D1 - IR1·D2], for OP
+unfoldable pub crossOf : Vector → Vector → Wide
+crossOf i d =
+    record { x = i .z *ℤ d .y -ℤ i .y *ℤ d .z; y = i .x *ℤ d .z -ℤ i .z *ℤ d .x; z = i .y *ℤ d .x -ℤ i .x *ℤ d .y }

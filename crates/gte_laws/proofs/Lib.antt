@@ -1,0 +1,4 @@
+pub mod Distance
+pub mod Near
+pub mod Demand
+pub mod Figures

@@ -1,0 +1,4 @@
+mod Leading
+mod Reading
+pub mod Views
+mod Writing
