@@ -1,9 +1,9 @@
 -- The 22 commands on the 64 words.
-use mathlib.Core.Bool.{Bool, true, false}
+use mathlib.Core.Bool.{Bool}
 use mathlib.Core.List.{List, [], _∷_, _++_}
 use Prim.Native.Nat.{ℕ, _+_, _/_, _%_}
 use lib.IntN.{pos, _*ℤ_}
-use lib.Dec.{eqb}
+use Rattle.tables.specs.Table.{Row, _⇒_, lookup}
 use Rattle.gte_arithmetic.specs.Checks.{Check, bitAt}
 use Rattle.gte_arithmetic.specs.Values.{mac0Checks}
 use Rattle.gte_effects.specs.Effects.{lineLeft, shadeLeft, shadesLeft, vertexLeft, verticesLeft, windingLeft, averageLeft}
@@ -57,25 +57,16 @@ pub data Command : Type 0 where
   NCCT : Command
   unlisted : Command
 
-infix 20 _⇒_
-pub data Row : Type 0 where
-  _⇒_ : ℕ → Command → Row
-
 -- by the low six bits
-unfoldable pub commands : List Row
+unfoldable pub commands : List (Row Command)
 commands =
     (0x01 ⇒ RTPS) ∷ (0x06 ⇒ NCLIP) ∷ (0x0c ⇒ OP) ∷ (0x10 ⇒ DPCS) ∷ (0x11 ⇒ INTPL) ∷ (0x12 ⇒ MVMVA)
     ∷ (0x13 ⇒ NCDS) ∷ (0x14 ⇒ CDP) ∷ (0x16 ⇒ NCDT) ∷ (0x1b ⇒ NCCS) ∷ (0x1c ⇒ CC) ∷ (0x1e ⇒ NCS)
     ∷ (0x20 ⇒ NCT) ∷ (0x28 ⇒ SQR) ∷ (0x29 ⇒ DCPL) ∷ (0x2a ⇒ DPCT) ∷ (0x2d ⇒ AVSZ3) ∷ (0x2e ⇒ AVSZ4)
     ∷ (0x30 ⇒ RTPT) ∷ (0x3d ⇒ GPF) ∷ (0x3e ⇒ GPL) ∷ (0x3f ⇒ NCCT) ∷ []
 
-abbrev pub choose : Bool → Command → Command → Command
-choose true a b = a
-choose false a b = b
-
-abbrev pub commandIn : List Row → ℕ → Command
-commandIn [] n = unlisted
-commandIn ((k ⇒ c) ∷ rows) n = choose (eqb n k) c (commandIn rows n)
+abbrev pub commandIn : ℕ → Command
+commandIn word = lookup commands unlisted (word % 64)
 
 -- ---- each command, from the words before it
 unfoldable pub leaves : Command → Bool → Bool → ℕ → Inputs → List ℕ → List ℕ
@@ -156,7 +147,7 @@ listed unlisted = Unlisted
 
 -- whether there is such a command: carried out, or not listed
 unfoldable pub outcomeOf : ℕ → Outcome
-outcomeOf word = listed (commandIn commands (word % 64))
+outcomeOf word = listed (commandIn word)
 
 abbrev pub ifDone : Outcome → List ℕ → List ℕ → List ℕ
 ifDone Done a w = a
@@ -165,4 +156,4 @@ ifDone Unlisted a w = w
 -- the words that a command leaves; one that is not listed changes nothing
 unfoldable pub commandOf : ℕ → List ℕ → List ℕ
 commandOf word w =
-    ifDone (outcomeOf word) (reads (leaves (commandIn commands (word % 64)) (sfOf word) (lmOf word) word (inputsOf w) w)) w
+    ifDone (outcomeOf word) (reads (leaves (commandIn word) (sfOf word) (lmOf word) word (inputsOf w) w)) w

@@ -1,15 +1,15 @@
 -- The laws of FLAG: a bit is set exactly when some check of that bit fails, bit 31 clear means that no counted bit is set,
 -- and register 63 reads alike when it is read twice.
-use mathlib.Core.Path.{_≡_, refl, sym, ap, ap₂, _∙_}
+use mathlib.Core.Path.{_≡_, refl, sym, ap, ap₂, _∙_, subst}
 use mathlib.Core.Bool.{Bool, true, false, cond, _&&_, _||_}
 use mathlib.Core.List.{List, [], _∷_, _++_}
 use Prim.Native.Nat.{ℕ, zero, suc, _+_, _*_, _/_, _%_, _^_, _<_, _≤_, max, min}
 use native.Mathlib.Omega.{arith}
-use native.Mathlib.Nat.{mod-lt, mul-add-mod-self-right, div-one, pow-suc, mul-mod-left, div-eq-of-lt, mul-comm, div-div-eq-div-mul, mul-div-cancel, zero-div, mod-eq-of-lt, lt-of-le-of-lt}
+use native.Mathlib.Nat.{mod-lt, mul-add-mod-self-right, div-one, pow-suc, mul-mod-left, div-eq-of-lt, mul-comm, div-div-eq-div-mul, mul-div-cancel, zero-div, zero-add, mod-eq-of-lt, lt-of-le-of-lt}
 use lib.Pow.{pow-pos}
-use borrow.Author.Tests.{eqb-true}
+use borrow.Author.Tests.{eqb-true, eqb-false, eq-eqb, ne-eqb}
 use lib.Dec.{eqb, lit<, eqb·zero-suc, eqb·suc-zero, eqb·suc-suc}
-use lib.Bits.{bitOr, bitAnd, or-step, or-zero-r, or-self, or-shr, and-shr, and-step, and-le-r, and-block, and-zero-r, and-mod, and-high}
+use lib.Bits.{bitOr, bitAnd, or-step, or-zero-r, or-self, or-shr, or-shifted, and-shr, and-step, and-le-r, and-block, and-zero-r, and-mod, and-high}
 use lib.Bits as bits
 use lib.Arith.{bin-ind}
 use Rattle.gte_arithmetic.specs.Checks.{or, raise, Check, fails, flags, flagWord, counted, bitAt, some}
@@ -187,3 +187,82 @@ flagWord-twice f = ap₂ (λ (x y : ℕ). cond (eqb x 0) 0 0x8000_0000 + y) (cut
 
     same : (f : ℕ) → flagWord f / 4096 % 524288 ≡ f / 4096 % 524288
     same f = ap (λ (y : ℕ). (cond (eqb (bitAnd f counted) 0) 0 0x8000_0000 + y) / 4096 % 524288) (middle f) ∙ top (eqb (bitAnd f counted) 0) (f / 4096 % 524288) (omega arith)
+
+-- ---- bits of an AND, and of register 63
+or-at : (b x y : ℕ) → bitAt b (bitOr x y) ≡ (bitAt b x || bitAt b y)
+unfolding or
+or-at b x y = or-bit b x y
+
+digit-and : (u v : ℕ) → u < 2 → v < 2 → eqb (min u v) 1 ≡ (eqb u 1 && eqb v 1)
+digit-and zero v h k = ap (λ (n : ℕ). eqb n 1) (zero-min v)
+  where
+    zero-min : (v : ℕ) → min 0 v ≡ 0
+    zero-min v = omega arith
+digit-and (suc zero) zero h k = refl
+digit-and (suc zero) (suc zero) h k = refl
+digit-and (suc zero) (suc (suc v)) h k = let e : ⊥ = omega arith in absurd e
+digit-and (suc (suc u)) v h k = let e : ⊥ = omega arith in absurd e
+
+pub and-bit : (b x y : ℕ) → bitAt b (bitAnd x y) ≡ (bitAt b x && bitAt b y)
+and-bit b x y =
+    ap (λ (n : ℕ). eqb (n % 2) 1) (and-shr x y b) ∙ ap (λ (n : ℕ). eqb n 1) (and-odd (x / 2 ^ b) (y / 2 ^ b))
+    ∙ digit-and (x / 2 ^ b % 2) (y / 2 ^ b % 2) (omega arith) (omega arith)
+
+and-true : (s t : Bool) → t ≡ true → (s && t) ≡ s
+and-true true t e = e
+and-true false t e = refl
+
+-- bits 30..12 of register 63 are those that were written
+pub flag-word-bit : (f b : ℕ) → bitAt b 0x7fff_f000 ≡ true → bitAt b (flagWord f) ≡ bitAt b f
+unfolding flagWord
+flag-word-bit f b e = go (eqb (bitAnd f counted) 0) ∙ and-bit b f 0x7fff_f000 ∙ and-true (bitAt b f) (bitAt b 0x7fff_f000) e
+  where
+    other : 31 ≡ b → ⊥
+    other k = clash (subst (λ (x : ℕ). bitAt x 0x7fff_f000 ≡ true) (sym k) e)
+      where
+        clash : _≡_ {A = Bool} false true → ⊥
+        clash z = let y : _≡_ {A = ℕ} 0 1 = cc in omega arith
+
+    top : (x : ℕ) → x ≤ 0x7fff_f000 → bitAt b (0x8000_0000 + x) ≡ bitAt b x
+    top x l =
+        ap (bitAt b) (sym (or-shifted 1 31 x (omega arith))) ∙ or-at b (2 ^ 31) x
+        ∙ ap (λ (t : Bool). t || bitAt b x) (power-bit b 31 ∙ ne-eqb 31 b other)
+
+    go : (t : Bool) → bitAt b (cond t 0 0x8000_0000 + bitAnd f 0x7fff_f000) ≡ bitAt b (bitAnd f 0x7fff_f000)
+    go true = ap (bitAt b) (zero-add (bitAnd f 0x7fff_f000))
+    go false = top (bitAnd f 0x7fff_f000) (and-le-r f 0x7fff_f000)
+
+-- a number with no bit set is 0
+no-bits : (n : ℕ) → ((b : ℕ) → bitAt b n ≡ false) → n ≡ 0
+no-bits = bin-ind (λ (n : ℕ). ((b : ℕ) → bitAt b n ≡ false) → n ≡ 0) (λ h. refl) step
+  where
+    low : (n : ℕ) → bitAt 0 n ≡ false → n % 2 ≡ 0
+    low n h = let k = eqb-false (n % 2) 1 (sym (ap (λ (x : ℕ). eqb (x % 2) 1) (div-one n)) ∙ h) in omega arith
+
+    shifted : (n b : ℕ) → n / 2 / 2 ^ b ≡ n / 2 ^ suc b
+    shifted n b = div-div-eq-div-mul n 2 (2 ^ b) ∙ ap (λ (x : ℕ). n / x) (mul-comm 2 (2 ^ b) ∙ sym (pow-suc 2 b))
+
+    step : (n : ℕ) → (((b : ℕ) → bitAt b (n / 2) ≡ false) → n / 2 ≡ 0) → ((b : ℕ) → bitAt b n ≡ false) → n ≡ 0
+    step n ih h =
+        let u = ih (λ b. ap (λ (x : ℕ). eqb (x % 2) 1) (shifted n b) ∙ h (suc b)) in
+        let v = low n (h 0) in
+        omega arith
+
+-- where each counted bit is clear, so is bit 31: with `clear-31`, bit 31 is the OR of the counted bits
+pub clear-all : (f : ℕ) → ((b : ℕ) → bitAt b counted ≡ true → bitAt b f ≡ false) → bitAt 31 (flagWord f) ≡ false
+unfolding flagWord
+clear-all f h = ap (λ (t : Bool). bitAt 31 (cond t 0 0x8000_0000 + bitAnd f 0x7fff_f000)) (eq-eqb (bitAnd f counted) 0 (no-bits (bitAnd f counted) none-set)) ∙ low (bitAnd f 0x7fff_f000) (and-le-r f 0x7fff_f000)
+  where
+    both : (s t : Bool) → (t ≡ true → s ≡ false) → (s && t) ≡ false
+    both true true k = k refl
+    both true false k = refl
+    both false t k = refl
+
+    none-set : (b : ℕ) → bitAt b (bitAnd f counted) ≡ false
+    none-set b = and-bit b f counted ∙ both (bitAt b f) (bitAt b counted) (h b)
+
+    quotient-0 : (x : ℕ) → x ≤ 0x7fff_f000 → (0 + x) / 0x8000_0000 % 2 ≡ 0
+    quotient-0 x l = omega arith
+
+    low : (x : ℕ) → x ≤ 0x7fff_f000 → bitAt 31 (0 + x) ≡ false
+    low x l = ap (λ (n : ℕ). eqb n 1) (quotient-0 x l)

@@ -11,7 +11,7 @@ use Rattle.gte_projection.specs.declared.vertex.Vertex.{Vertex}
 use Rattle.gte_registers.specs.Registers.{reg, kinds, readOf, reads, pushedXY}
 use Rattle.gte_inputs.specs.Inputs.{Inputs, inputsOf}
 use Rattle.gte.specs.Values.{rotated, vertexAt, vertexChecksAt}
-use Rattle.gte.specs.Commands.{Command, RTPS, RTPT, commands, commandIn, sfOf, leaves, outcomeOf, commandOf}
+use Rattle.gte.specs.Commands.{Command, RTPS, RTPT, commandIn, sfOf, leaves, outcomeOf, commandOf}
 use Rattle.gte_effects.specs.Effects.{stored, flagged, pushedZ, pushedVertex, vertexKept, vertexLeft, verticesLeft}
 use Rattle.gte_laws.specs.Demand.{tolerance, Near, Goes, single, first, second, third, Demand3}
 use Rattle.gte_registers.proofs.Views.{spelt}
@@ -76,22 +76,22 @@ near-in w k xy clear e =
     subst (λ (t : ℕ). Near tolerance w k t) e (record { ahead = n .ahead; across = n .across; along = n .along })
 
 -- ---- the words that each of the two commands leaves
-rtps-leaves : (word : ℕ) (w : List ℕ) → commandIn commands (word % 64) ≡ RTPS → sfOf word ≡ true → commandOf word w ≡ reads (vertexLeft (vertexAt true (inputsOf w) 0) w)
+rtps-leaves : (word : ℕ) (w : List ℕ) → commandIn word ≡ RTPS → sfOf word ≡ true → commandOf word w ≡ reads (vertexLeft (vertexAt true (inputsOf w) 0) w)
 unfolding commandOf outcomeOf leaves
 rtps-leaves word w e s = rw (e, s)
 
-rtpt-leaves : (word : ℕ) (w : List ℕ) → commandIn commands (word % 64) ≡ RTPT → sfOf word ≡ true → commandOf word w ≡ reads (verticesLeft (vertexAt true (inputsOf w) 0) (vertexAt true (inputsOf w) 1) (vertexAt true (inputsOf w) 2) w)
+rtpt-leaves : (word : ℕ) (w : List ℕ) → commandIn word ≡ RTPT → sfOf word ≡ true → commandOf word w ≡ reads (verticesLeft (vertexAt true (inputsOf w) 0) (vertexAt true (inputsOf w) 1) (vertexAt true (inputsOf w) 2) w)
 unfolding commandOf outcomeOf leaves
 rtpt-leaves word w e s = rw (e, s)
 
 module _ (word : ℕ) (w : List ℕ) (h : length w ≡ 64) (s : sfOf word ≡ true) (clear : bitAt 31 (reg (commandOf word w) 63) ≡ false) where
-  one : commandIn commands (word % 64) ≡ RTPS → Near tolerance w 0 (reg (commandOf word w) 14)
+  one : commandIn word ≡ RTPS → Near tolerance w 0 (reg (commandOf word w) 14)
   one e =
       let v = vertexAt true (inputsOf w) 0 in
       let c = rw (rtps-leaves word w e s, flag-1 w h v, flag-of (inputsOf w) 0) at clear in
       near-in w 0 (reg (commandOf word w) 14) (none (vertexChecksAt true (inputsOf w) 0) c) (sym (ap (λ (t : List ℕ). reg t 14) (rtps-leaves word w e s) ∙ xy-1 w h v))
 
-  module _ (e : commandIn commands (word % 64) ≡ RTPT) where
+  module _ (e : commandIn word ≡ RTPT) where
     all : (b : ℕ) → counted / 2 ^ b % 2 ≡ 1 → some b (vertexChecksAt true (inputsOf w) 0 ++ (vertexChecksAt true (inputsOf w) 1 ++ vertexChecksAt true (inputsOf w) 2)) ≡ false
     all =
         none (vertexChecksAt true (inputsOf w) 0 ++ (vertexChecksAt true (inputsOf w) 1 ++ vertexChecksAt true (inputsOf w) 2))
@@ -118,7 +118,7 @@ module _ (word : ℕ) (w : List ℕ) (h : length w ≡ 64) (s : sfOf word ≡ tr
         near-in w 2 (reg (commandOf word w) 14) (λ b f. some-r b (vertexChecksAt true i 1) (vertexChecksAt true i 2) (some-r b (vertexChecksAt true i 0) (vertexChecksAt true i 1 ++ vertexChecksAt true i 2) (all b f)))
         (sym (after 14 ∙ xy-c w h (vertexAt true i 0) (vertexAt true i 1) (vertexAt true i 2)))
 
-  by-vertex : (c : Command) (k r : ℕ) → Goes c k r → commandIn commands (word % 64) ≡ c → Near tolerance w k (reg (commandOf word w) r)
+  by-vertex : (c : Command) (k r : ℕ) → Goes c k r → commandIn word ≡ c → Near tolerance w k (reg (commandOf word w) r)
   by-vertex c k r single e = one e
   by-vertex c k r first e = at-0 e
   by-vertex c k r second e = at-1 e
@@ -126,4 +126,4 @@ module _ (word : ℕ) (w : List ℕ) (h : length w ≡ 64) (s : sfOf word ≡ tr
 
 -- one claim over both commands and all their vertices
 pub demand-3 : Demand3
-demand-3 word w h s clear k r g = by-vertex word w h s clear (commandIn commands (word % 64)) k r g refl
+demand-3 word w h s clear k r g = by-vertex word w h s clear (commandIn word) k r g refl

@@ -3,7 +3,7 @@
 use mathlib.Core.Bool.{false, true}
 use mathlib.Core.List.{List}
 use mathlib.Core.Path.{_≡_}
-use Prim.Native.Nat.{ℕ, _*_, _%_, _≤_}
+use Prim.Native.Nat.{ℕ, _*_, _≤_}
 use lib.IntN.{ℤ, pos, natAbs, _-ℤ_, _*ℤ_}
 use lib.ListN.{length}
 use lib.Signed.{_≤ℤ_, shrZ}
@@ -13,7 +13,7 @@ use Rattle.words.specs.Words.{lowSigned, highHalf}
 use Rattle.gte_registers.specs.Registers.{reg}
 use Rattle.gte_inputs.specs.Inputs.{inputsOf}
 use Rattle.gte.specs.Values.{rotated}
-use Rattle.gte.specs.Commands.{Command, RTPS, RTPT, commands, commandIn, sfOf, commandOf}
+use Rattle.gte.specs.Commands.{Command, RTPS, RTPT, commandIn, sfOf, commandOf}
 
 -- one and a quarter pixels, in 1/65,536 of a pixel
 abbrev pub tolerance : ℕ
@@ -45,5 +45,5 @@ Demand3 =
     → sfOf word ≡ true
     → bitAt 31 (reg (commandOf word w) 63) ≡ false
     → (k r : ℕ)
-    → Goes (commandIn commands (word % 64)) k r
+    → Goes (commandIn word) k r
     → Near tolerance w k (reg (commandOf word w) r)

@@ -1,11 +1,11 @@
 -- Registers by their number: what the 64 words hold at a number that is not a literal is what the table of kinds says of it.
 use mathlib.Core.Path.{_≡_, refl, sym, ap, _∙_}
-use mathlib.Core.List.{List, [], _∷_, map}
+use mathlib.Core.List.{List, map}
 use Prim.Native.Nat.{ℕ, zero, suc, _+_, _%_, _<_}
 use native.Mathlib.Omega.{arith}
-use borrow.Author.Tests.{ne-eqb}
 use lib.ListN.{getD}
-use Rattle.gte_registers.specs.Registers.{reg, plain, Entry, _⇒_, kinds, kindIn, readOf, upFrom, reads, view}
+use Rattle.tables.specs.Table.{NoneOf, lookup-none}
+use Rattle.gte_registers.specs.Registers.{reg, plain, kinds, readOf, upFrom, reads, view}
 
 at-place : (f : ℕ → ℕ) (n k i : ℕ) → i < n → getD (map f (upFrom n k)) i 0 ≡ f (k + i)
 at-place f zero k i h = let e : ⊥ = omega arith in absurd e
@@ -30,22 +30,7 @@ pub at-key : (s : List ℕ) (i k : ℕ) {r : ℕ} → i % 64 ≡ k → r ≡ rea
 unfolding view
 at-key s i k e h = h ∙ ap (readOf s) (sym e) ∙ sym (read-at s (i % 64) (omega arith))
 
--- the number i is none of the keys, in the form in which code says so: a pair for each key that it has passed
-unfoldable pub NoneOf : List Entry → ℕ → Type 0 → Type 0
-NoneOf [] i G = G
-NoneOf ((k ⇒ t) ∷ ts) i G = NoneOf ts i (G × (i ≡ k → ⊥))
-
-kept : (ts : List Entry) (i : ℕ) (G : Type 0) → NoneOf ts i G → G
-unfolding NoneOf
-kept [] i G g = g
-kept ((k ⇒ t) ∷ ts) i G g = kept ts i (G × (i ≡ k → ⊥)) g .0
-
--- then it is a plain word
-pub unlisted : (ts : List Entry) (i : ℕ) (G : Type 0) → NoneOf ts i G → kindIn ts i ≡ plain
-unfolding NoneOf
-unlisted [] i G g = refl
-unlisted ((k ⇒ t) ∷ ts) i G g = rw (ne-eqb i k (kept ts i (G × (i ≡ k → ⊥)) g .1)) (unlisted ts i (G × (i ≡ k → ⊥)) g)
-
+-- a read of a register that is not in the table
 pub at-rest : (s : List ℕ) (i : ℕ) → NoneOf kinds (i % 64) Unit → reg s (i % 64) ≡ reg (view s) (i % 64)
 unfolding view readOf
-at-rest s i g = sym (read-at s (i % 64) (omega arith) ∙ rw (unlisted kinds (i % 64) Unit g) refl)
+at-rest s i g = sym (read-at s (i % 64) (omega arith) ∙ rw (lookup-none kinds plain (i % 64) Unit g) refl)

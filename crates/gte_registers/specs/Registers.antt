@@ -1,6 +1,6 @@
 -- COP2 registers (01 "COP2 registers"): what a read of each returns, and what a write does. The 64 words are those of
 -- an image: registers 0..31 are the data registers, 32..63 the control registers.
-use mathlib.Core.Bool.{Bool, true, false, cond}
+use mathlib.Core.Bool.{cond}
 use mathlib.Core.List.{List, [], _∷_, map}
 use mathlib.Core.Path.{_≡_}
 use Prim.Native.Nat.{ℕ, zero, suc, _+_, _*_, _/_, _%_, _^_}
@@ -10,6 +10,7 @@ use lib.Dec.{eqb}
 use lib.ListN.{getD, set}
 use mir.Syntax.{w16}
 use Rattle.integers.specs.Clamp.{clamp}
+use Rattle.tables.specs.Table.{Row, _⇒_, lookup}
 use Rattle.words.specs.Words.{lowSigned, signExtend, zeroExtend}
 use Rattle.gte_arithmetic.specs.Checks.{flagWord}
 
@@ -26,12 +27,8 @@ pub data Kind : Type 0 where
   count : Kind  -- LZCR
   flag : Kind
 
-infix 20 _⇒_
-pub data Entry : Type 0 where
-  _⇒_ : ℕ → Kind → Entry
-
 -- every register that is not listed is a plain word
-unfoldable pub kinds : List Entry
+unfoldable pub kinds : List (Row Kind)
 kinds =
     (1 ⇒ signed) ∷ (3 ⇒ signed) ∷ (5 ⇒ signed) ∷ (7 ⇒ unsigned)
     ∷ (8 ⇒ signed) ∷ (9 ⇒ signed) ∷ (10 ⇒ signed) ∷ (11 ⇒ signed) ∷ (15 ⇒ last)
@@ -39,14 +36,6 @@ kinds =
     ∷ (28 ⇒ fields) ∷ (29 ⇒ fields) ∷ (31 ⇒ count)
     ∷ (36 ⇒ signed) ∷ (44 ⇒ signed) ∷ (52 ⇒ signed)
     ∷ (58 ⇒ signed) ∷ (59 ⇒ signed) ∷ (61 ⇒ signed) ∷ (62 ⇒ signed) ∷ (63 ⇒ flag) ∷ []
-
-abbrev pub pick : Bool → Kind → Kind → Kind
-pick true a b = a
-pick false a b = b
-
-abbrev pub kindIn : List Entry → ℕ → Kind
-kindIn [] i = plain
-kindIn ((k ⇒ t) ∷ ts) i = pick (eqb i k) t (kindIn ts i)
 
 -- ---- reading
 unfoldable pub short : ℕ → ℕ
@@ -82,7 +71,7 @@ readAs flag w i = flagWord (reg w i)
 
 -- what a read of register i returns
 unfoldable pub readOf : List ℕ → ℕ → ℕ
-readOf w i = readAs (kindIn kinds i) w i
+readOf w i = readAs (lookup kinds plain i) w i
 
 -- n numbers from k on
 abbrev pub upFrom : ℕ → ℕ → List ℕ

@@ -1,8 +1,9 @@
 -- Each arm carries out the command of its row, and the rest is in no row.
 use borrow.Author.Needs.{needs}
 use mathlib.Core.Path.{refl}
+use Rattle.tables.specs.Table.{NoneOf}
 use Rattle.gte.specs.Commands.{commands, leaves, RTPS, NCLIP, OP, DPCS, INTPL, MVMVA, NCDS, CDP, NCDT, NCCS, CC, NCS, NCT, SQR, DCPL, DPCT, AVSZ3, AVSZ4, RTPT, GPF, GPL, NCCT}
-use Rattle.gte.proofs.Listed.{NoneOf, carried, passed}
+use Rattle.gte.proofs.Listed.{carried, passed}
 use Rattle.gte.proofs.command.command.Statement.{statement}
 use Rattle.gte.proofs.command.command.Tie as tie
 

@@ -1,8 +1,9 @@
 -- Each arm is what the table of kinds says of its number, and a number with no arm is not in the table.
 use borrow.Author.Needs.{needs}
 use mathlib.Core.Path.{refl}
+use Rattle.tables.specs.Table.{NoneOf}
 use Rattle.gte_registers.specs.Registers.{kinds, short, half, readOf}
-use Rattle.gte_registers.proofs.Reading.{NoneOf, at-key, at-rest}
+use Rattle.gte_registers.proofs.Reading.{at-key, at-rest}
 use Rattle.gte_registers.proofs.register.read.Statement.{statement}
 use Rattle.gte_registers.proofs.register.read.Tie as tie
 

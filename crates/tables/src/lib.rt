@@ -1,0 +1,1 @@
+// Tables by number, for the definitions of other crates: specs/ has them, and there is no code.
