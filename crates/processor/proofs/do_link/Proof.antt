@@ -1,0 +1,15 @@
+-- The load that waits lands before the link is written, and the flow takes the target.
+use Rattle.processor.specs.Step.{linkStep}
+use borrow.Author.Needs.{needs}
+use Rattle.processor.proofs.do_link.Statement.{statement}
+use Rattle.processor.proofs.do_link.Tie as tie
+
+pub do-link-spec : {M : Type 1} → statement M
+unfolding linkStep
+do-link-spec =
+    tie.close
+    (tie.spec
+    (λ c κs. search needs)
+    (λ c κs. search needs)
+    (λ c κs. search needs)
+    (λ c. λ g m. rw (c .jump .ensures, c .before .write-register .ensures, c .before .before .before .land .ensures)))

@@ -1,0 +1,15 @@
+-- The test is the specification's, and so is each record.
+use borrow.Author.Needs.{needs}
+use borrow.Author.Tests.{eq-eqb, ne-eqb}
+use Rattle.processor.specs.Step.{pendingOf}
+use Rattle.processor.proofs.to_wait.Statement.{statement}
+use Rattle.processor.proofs.to_wait.Tie as tie
+
+pub to-wait-spec : {M : Type 1} → statement M
+unfolding pendingOf
+to-wait-spec =
+    tie.close
+    (tie.spec
+    (λ c. search needs)
+    (λ c. simp (eq-eqb _ _ (c .if1 .taken)))
+    (λ c. simp (ne-eqb _ _ (c .if1 .left))))
