@@ -104,7 +104,7 @@ fn positive(a: u32) -> bool
 }
 
 // A branch's new next PC.
-fn target(taken: bool, next: u32, offset: u32) -> u32
+fn branch_target(taken: bool, next: u32, offset: u32) -> u32
     ensures { λ r. ⌜ r ≡ targetOf taken next offset ⌝ }
 {
     if taken {
@@ -148,17 +148,17 @@ pub fn execute(op: Op, f: Fields, a: u32, b: u32, next: u32, h: HiLo) -> Effect
         Op::Nor => Effect::Write(f.rd, !(a | b)),
         Op::Slt => Effect::Write(f.rd, less_signed(a, b)),
         Op::Sltu => Effect::Write(f.rd, less(a, b)),
-        Op::Bltz => Effect::Jump(target(negative(a), next, f.offset)),
-        Op::Bgez => Effect::Jump(target(!negative(a), next, f.offset)),
+        Op::Bltz => Effect::Jump(branch_target(negative(a), next, f.offset)),
+        Op::Bgez => Effect::Jump(branch_target(!negative(a), next, f.offset)),
         Op::Bltzal => Effect::Link(
             31,
             wrapping_add_u32(next, 4),
-            target(negative(a), next, f.offset),
+            branch_target(negative(a), next, f.offset),
         ),
         Op::Bgezal => Effect::Link(
             31,
             wrapping_add_u32(next, 4),
-            target(!negative(a), next, f.offset),
+            branch_target(!negative(a), next, f.offset),
         ),
         Op::J => Effect::Jump(next / 0x1000_0000 * 0x1000_0000 + f.target),
         Op::Jal => Effect::Link(
@@ -166,10 +166,10 @@ pub fn execute(op: Op, f: Fields, a: u32, b: u32, next: u32, h: HiLo) -> Effect
             wrapping_add_u32(next, 4),
             next / 0x1000_0000 * 0x1000_0000 + f.target,
         ),
-        Op::Beq => Effect::Jump(target(a == b, next, f.offset)),
-        Op::Bne => Effect::Jump(target(a != b, next, f.offset)),
-        Op::Blez => Effect::Jump(target(!positive(a), next, f.offset)),
-        Op::Bgtz => Effect::Jump(target(positive(a), next, f.offset)),
+        Op::Beq => Effect::Jump(branch_target(a == b, next, f.offset)),
+        Op::Bne => Effect::Jump(branch_target(a != b, next, f.offset)),
+        Op::Blez => Effect::Jump(branch_target(!positive(a), next, f.offset)),
+        Op::Bgtz => Effect::Jump(branch_target(positive(a), next, f.offset)),
         Op::Addi => write_sum(f.rt, add_signed(a, f.extended)),
         Op::Addiu => Effect::Write(f.rt, wrapping_add_u32(a, f.extended)),
         Op::Slti => Effect::Write(f.rt, less_signed(a, f.extended)),
