@@ -1,4 +1,4 @@
-// Addresses, loads and stores in RAM, and the RAM window.
+// Addresses, loads and stores in RAM.
 ghost use mathlib.Core.Path.{_≡_};
 ghost use Prim.Native.Nat.{_+_, _*_, _/_, _%_, _<_, _≤_};
 ghost use mathlib.Core.Bool.{_&&_};
@@ -7,7 +7,6 @@ ghost use lib.ListN.{length, set, take, drop};
 ghost use lib.Seq.{sets};
 ghost use Rattle.memory.specs.Addresses.{ramLength, RamOk, mapped, segmentOf, placeOf};
 ghost use Rattle.memory.specs.Access.{loadAlign, storeAlign, halfAt, leftOf, rightOf, readOf, bytes4, writeOf, loadOf, storeOf, ramAfter};
-ghost use Rattle.memory.specs.Window.{inRam, windowAt, windowLength, windowOf};
 use words::bytes::put_word;
 use words::bytes::word_at;
 use words::sign::sign_extend_8;
@@ -81,7 +80,7 @@ fn is_mapped(a: u32) -> bool
 }
 
 // The segment translation.
-fn translate(v: Virt, len: usize) -> Place
+pub fn translate(v: Virt, len: usize) -> Place
     ensures { λ r. ⌜ r ≡ segmentOf (v .0) len ⌝ }
 {
     let a = v.0;
@@ -319,35 +318,5 @@ pub fn store(k: StoreKind, ram: &mut [u8], v: Virt, user: bool, x: u32) -> Store
         }
         Place::Bus => Stored::Bus,
         Place::Address => Stored::Address,
-    }
-}
-
-// Whether every byte of a range is in RAM of a length.
-fn in_ram(a: u32, n: usize, len: usize) -> bool
-    ensures { λ r. ⌜ r ≡ inRam a n len ⌝ }
-{
-    if ram_length(len) {
-        if is_mapped(a) {
-            let p = (a % 0x2000_0000) as usize;
-            if p < len {
-                return n <= len - p;
-            }
-        }
-    }
-    false
-}
-
-// The RAM window: that part of the lent RAM itself, the same place in memory.
-pub fn window(ram: &[u8], v: Virt, n: usize) -> &[u8]
-    ensures is { λ r. ⌜ now r ≡ windowOf (now (ram .entry)) (v .0) n ⌝ }
-    ensures block { λ r. ⌜ r .ptr .0 ≡ ram .entry .ptr .0 ⌝ }
-    ensures place { λ r. ⌜ r .ptr .1 ≡ ram .entry .ptr .1 + windowAt (v .0) n (length (now (ram .entry))) ⌝ }
-{
-    let a = v.0;
-    if in_ram(a, n, ram.len()) {
-        let p = (a % 0x2000_0000) as usize;
-        &ram[p..p + n]
-    } else {
-        &ram[..0]
     }
 }

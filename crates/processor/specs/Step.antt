@@ -1,10 +1,8 @@
--- The machine and one step of it (01 "One step").
+-- One step of the machine (01 "One step").
 use mathlib.Core.Bool.{Bool, true, false, cond}
 use mathlib.Core.List.{List}
-use Prim.Native.Nat.{ℕ, _/_, _%_}
-use lib.Dec.{eqb}
-use lib.ListN.{length, getD, set}
-use Rattle.alu.specs.declared.HiLo.{HiLo}
+use Prim.Native.Nat.{ℕ, _%_}
+use lib.ListN.{length, getD}
 use Rattle.memory.specs.Addresses.{placeOf}
 use Rattle.memory.specs.Access.{loadAlign, storeAlign, loadOf, storeOf, ramAfter}
 use Rattle.memory.specs.declared.LoadKind.{LoadKind}
@@ -16,103 +14,19 @@ use Rattle.memory.specs.declared.Loaded.the-variants as L
 use Rattle.memory.specs.declared.Stored.{Stored}
 use Rattle.memory.specs.declared.Stored.the-variants as S
 use Rattle.decode.specs.Decode.{decodeOf, ownerOf, rs, rt}
-use Rattle.isa.specs.Execute.{add, fieldsOf, executeOf}
+use Rattle.isa.specs.Execute.{fieldsOf, executeOf}
 use Rattle.isa.specs.declared.Effect.{Effect}
 use Rattle.isa.specs.declared.Effect.the-variants as E
 use Rattle.gte_registers.specs.Registers.{reg, writeOf}
 use Rattle.gte.specs.Commands.{outcomeOf, commandOf}
 use Rattle.gte.specs.declared.command.Outcome.{Outcome}
 use Rattle.gte.specs.declared.command.Outcome.the-variants as O
-use Rattle.processor.specs.System.{userOf, usableOf, numberOf, readSystemOf, writeSystemOf, restoredOf, none, raisedOf, withBadAddress}
-use Rattle.processor.specs.declared.Flow.{Flow}
-use Rattle.processor.specs.declared.Pending.{Pending}
-use Rattle.processor.specs.declared.System.{System}
-use Rattle.processor.specs.declared.Control.{Control}
+use Rattle.control.specs.System.{userOf, usableOf, numberOf, readSystemOf, writeSystemOf, restoredOf}
+use Rattle.effects.specs.Effects.{State, state, currentOf, nextStep, writeStep, jumpStep, linkStep, productStep, systemStep, waitStep, trapStep, faultStep}
 
--- registers: the 32 general ones; geometry: the 64 words of COP2 as reads return them
-pub record State : Type 0 where
-  pub control : Control
-  pub registers : List ℕ
-  pub geometry : List ℕ
-  pub ram : List ℕ
-
-abbrev pub state : Control → List ℕ → List ℕ → List ℕ → State
-state c r g m = record { control = c; registers = r; geometry = g; ram = m }
-
--- ---- PC takes next PC; next PC takes itself plus 4, or the target
-abbrev pub onward : Flow → Flow
-onward f = record { pc = f .next; next = add (f .next) 4; slot = 0 }
-
-abbrev pub jumped : Flow → ℕ → Flow
-jumped f target = record { pc = f .next; next = target; slot = 1 }
-
--- ---- the load that waits lands at the end of the instruction after it, unless that one loads the register too
-abbrev pub landed : Pending → List ℕ → List ℕ
-landed p r = set r (p .register % 32) (p .value)
-
-unfoldable pub landedUnless : Pending → List ℕ → ℕ → List ℕ
-landedUnless p r n = cond (eqb (p .register % 32) (n % 32)) r (landed p r)
-
--- register 0 stays 0
-abbrev pub withRegister : List ℕ → ℕ → ℕ → List ℕ
-withRegister r n v = set (set r (n % 32) v) 0 0
-
--- into register 0 nothing is left waiting
-unfoldable pub pendingOf : ℕ → ℕ → Pending
-pendingOf n v = cond (eqb (n % 32) 0) none (record { register = n % 32; value = v })
-
--- what LWL and LWR merge with: the value that waits for the register, or the register
-unfoldable pub currentOf : Pending → List ℕ → ℕ → ℕ
-currentOf p r n = cond (eqb (p .register % 32) (n % 32)) (p .value) (getD r (n % 32) 0)
-
--- ---- what each effect does to the machine
-abbrev pub with : Flow → Pending → Control → Control
-with f p c = record { flow = f; pending = p; system = c .system; product = c .product }
-
-unfoldable pub nextStep : State → State
-nextStep s =
-    state (with (onward (s .control .flow)) none (s .control)) (landed (s .control .pending) (s .registers)) (s .geometry) (s .ram)
-
-unfoldable pub writeStep : ℕ → ℕ → State → State
-writeStep n v s =
-    state (with (onward (s .control .flow)) none (s .control)) (withRegister (landed (s .control .pending) (s .registers)) n v) (s .geometry)
-    (s .ram)
-
-unfoldable pub jumpStep : ℕ → State → State
-jumpStep t s =
-    state (with (jumped (s .control .flow) t) none (s .control)) (landed (s .control .pending) (s .registers)) (s .geometry) (s .ram)
-
-unfoldable pub linkStep : ℕ → ℕ → ℕ → State → State
-linkStep n link t s =
-    state (with (jumped (s .control .flow) t) none (s .control)) (withRegister (landed (s .control .pending) (s .registers)) n link)
-    (s .geometry) (s .ram)
-
-unfoldable pub productStep : HiLo → State → State
-productStep h s =
-    state (record { flow = onward (s .control .flow); pending = none; system = s .control .system; product = h })
-    (landed (s .control .pending) (s .registers)) (s .geometry) (s .ram)
-
-unfoldable pub systemStep : System → State → State
-systemStep y s =
-    state (record { flow = onward (s .control .flow); pending = none; system = y; product = s .control .product })
-    (landed (s .control .pending) (s .registers)) (s .geometry) (s .ram)
-
+-- ---- what the effects that reach memory or COP2 do
 abbrev pub geometryStep : List ℕ → State → State
 geometryStep g s = nextStep (state (s .control) (s .registers) g (s .ram))
-
--- a result that shows one instruction late
-unfoldable pub waitStep : ℕ → ℕ → State → State
-waitStep n v s =
-    state (with (onward (s .control .flow)) (pendingOf n v) (s .control)) (landedUnless (s .control .pending) (s .registers) n) (s .geometry)
-    (s .ram)
-
--- an exception: the waiting load lands
-unfoldable pub trapStep : ℕ → ℕ → State → State
-trapStep code unit s = state (raisedOf (s .control) (code % 32) (unit % 4)) (landed (s .control .pending) (s .registers)) (s .geometry) (s .ram)
-
--- an address error has its address in BADV
-unfoldable pub faultStep : ℕ → ℕ → State → State
-faultStep code a s = trapStep code 0 (state (withBadAddress a (s .control)) (s .registers) (s .geometry) (s .ram))
 
 abbrev pub loaded : LoadKind → ℕ → ℕ → State → Loaded
 loaded k old a s = loadOf k (s .ram) old (placeOf a (loadAlign k) (userOf (s .control .system)) (length (s .ram)))

@@ -5,11 +5,11 @@
 // `q`: an address in RAM, and what its word is to be. Numbers are 8 hexadecimal digits.
 ghost use Prim.Native.Nat.{_<_};
 use alu::HiLo;
-use processor::Control;
-use processor::Flow;
-use processor::Pending;
+use control::Control;
+use control::Flow;
+use control::Pending;
+use control::System;
 use processor::Stepped;
-use processor::System;
 use processor::step;
 
 // What has been counted, and whether the case that runs has had no difference so far.

@@ -1,0 +1,92 @@
+-- Cop0 and exceptions (01 "One step"; 002's codes).
+use mathlib.Core.Bool.{Bool, true, cond}
+use mathlib.Core.List.{List, [], _∷_}
+use Prim.Native.Nat.{ℕ, _+_, _*_, _/_, _%_, _^_}
+use lib.Bits.{bitAnd}
+use lib.Dec.{eqb}
+use Rattle.tables.specs.Table.{_⇒_, lookup}
+use Rattle.gte_arithmetic.specs.Checks.{bitAt}
+use Rattle.decode.specs.declared.Owner.{Owner}
+use Rattle.decode.specs.declared.Owner.the-variants.{Processor, Coprocessor0, Coprocessor1, Coprocessor2, Coprocessor3}
+use Rattle.isa.specs.Execute.{add, subtract, bit}
+use Rattle.control.specs.declared.Flow.{Flow}
+use Rattle.control.specs.declared.Pending.{Pending}
+use Rattle.control.specs.declared.System.{System}
+use Rattle.control.specs.declared.Control.{Control}
+
+-- ---- the mode, and which coprocessors it may use: 0 in kernel mode or by CU0, the others by their CU bit
+abbrev pub userOf : System → Bool
+userOf s = bitAt 1 (s .sr)
+
+unfoldable pub usableOf : Owner → System → Bool
+usableOf Processor s = true
+usableOf Coprocessor0 s = cond (userOf s) (bitAt 28 (s .sr)) true
+usableOf Coprocessor1 s = bitAt 29 (s .sr)
+usableOf Coprocessor2 s = bitAt 30 (s .sr)
+usableOf Coprocessor3 s = bitAt 31 (s .sr)
+
+abbrev pub numberOf : Owner → ℕ
+numberOf Processor = 0
+numberOf Coprocessor0 = 0
+numberOf Coprocessor1 = 1
+numberOf Coprocessor2 = 2
+numberOf Coprocessor3 = 3
+
+-- ---- moves: 8, 12, 13 and 14 are read, others read 0; SR is written under its mask and CAUSE in bits 9..8
+unfoldable pub readSystemOf : ℕ → System → ℕ
+readSystemOf n s = lookup ((8 ⇒ s .badv) ∷ (12 ⇒ s .sr) ∷ (13 ⇒ s .cause) ∷ (14 ⇒ s .epc) ∷ []) 0 n
+
+abbrev pub withSr : ℕ → System → System
+withSr v s = record { sr = v; cause = s .cause; epc = s .epc; badv = s .badv }
+
+abbrev pub withCause : ℕ → System → System
+withCause v s = record { sr = s .sr; cause = v; epc = s .epc; badv = s .badv }
+
+unfoldable pub writeSystemOf : ℕ → ℕ → System → System
+writeSystemOf n v s =
+    lookup
+    ((12 ⇒ withSr (bitAnd v 0xf24f_ff3f) s) ∷ (13 ⇒ withCause (s .cause / 0x400 * 0x400 + v / 0x100 % 4 * 0x100 + s .cause % 0x100) s) ∷ [])
+    s
+    n
+
+-- RFE copies bits 5..2 of SR to 3..0
+unfoldable pub restoredOf : System → System
+restoredOf s = withSr (s .sr / 16 * 16 + s .sr / 4 % 16) s
+
+-- ---- an exception of a code; unit is the coprocessor's number for CpU, else 0
+abbrev pub inSlot : Flow → Bool
+inSlot f = eqb (f .slot) 1
+
+unfoldable pub raisedSystem : System → Flow → ℕ → ℕ → System
+raisedSystem s f code unit =
+    record {
+      sr = s .sr / 64 * 64 + s .sr % 16 * 4;
+      cause = bit (inSlot f) * 2 ^ 31 + (unit * 2 ^ 28 + s .cause / 0x100 % 4 * 0x100 + code * 4);
+      epc = cond (inSlot f) (subtract (f .pc) 4) (f .pc);
+      badv = s .badv;
+    }
+
+-- by BEV
+unfoldable pub vectorOf : System → ℕ
+vectorOf s = cond (bitAt 22 (s .sr)) 0xbfc0_0180 0x8000_0080
+
+abbrev pub none : Pending
+none = record { register = 0; value = 0 }
+
+unfoldable pub raisedOf : Control → ℕ → ℕ → Control
+raisedOf c code unit =
+    record {
+      flow = record { pc = vectorOf (c .system); next = add (vectorOf (c .system)) 4; slot = 0 };
+      pending = none;
+      system = raisedSystem (c .system) (c .flow) code unit;
+      product = c .product;
+    }
+
+abbrev pub withBadAddress : ℕ → Control → Control
+withBadAddress a c =
+    record {
+      flow = c .flow;
+      pending = c .pending;
+      system = record { sr = c .system .sr; cause = c .system .cause; epc = c .system .epc; badv = a };
+      product = c .product;
+    }
