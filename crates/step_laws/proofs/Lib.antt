@@ -1,1 +1,4 @@
 pub mod Figures
+pub mod Masks
+pub mod Formed
+pub mod Kept

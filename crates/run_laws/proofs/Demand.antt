@@ -1,0 +1,133 @@
+-- Demand 3 over runs: the step is one command over the words of the image before it, and the command's own theorem applies.
+use Prim.Native.Nat.{ℕ, zero, suc, _+_, _-_, _*_, _/_, _%_, _<_, _≤_}
+use native.Mathlib.Omega.{arith}
+use mathlib.Core.Bool.{Bool, true, false, cond}
+use mathlib.Core.List.{List}
+use mathlib.Core.Path.{_≡_, refl, sym, ap, _∙_}
+use lib.Dec.{leb}
+use lib.ListN.{length}
+use borrow.Author.Tests.{leb-true}
+use Rattle.decode.specs.Decode.{decodeOf, ownerOf}
+use Rattle.decode.specs.declared.Op.{Op}
+use Rattle.decode.specs.declared.Op.the-variants as D
+use Rattle.isa.specs.Execute.{fieldsOf, executeOf}
+use Rattle.memory.specs.Addresses.{ramLength}
+use Rattle.effects.specs.Effects.{State, nextStep}
+use Rattle.processor.specs.Step.{Tick, tick, geometryStep, afterCommand, performOf, issueOf, stepOf}
+use Rattle.gte_arithmetic.specs.Checks.{bitAt}
+use Rattle.gte_registers.specs.Registers.{reg}
+use Rattle.gte.specs.Commands.{Command, commandIn, sfOf, listed, outcomeOf, commandOf}
+use Rattle.gte.specs.declared.command.Outcome.{Outcome}
+use Rattle.gte.specs.declared.command.Outcome.the-variants as O
+use Rattle.gte_laws.specs.Demand.{tolerance, Near, Goes, single, first, second, third}
+use Rattle.gte_laws.proofs.Demand.{demand-3}
+use Rattle.image.specs.Image.{geometryIn, machineOf, imageOf}
+use Rattle.run.specs.Run.{Run, ran, further, onwards, runOf}
+use Rattle.run.proofs.Steps.{stays}
+use Rattle.fliskadee.specs.Answer.{Answer, packed, codeOf, finished, refused, mostSteps, answerOf}
+use Rattle.step_laws.specs.Formed.{StateFormed}
+use Rattle.run_laws.specs.Runs.{Accepted, stepsIn}
+use Rattle.run_laws.specs.Demand.{CarriesOut, Demand3}
+use Rattle.run_laws.proofs.Machine.{geometry-long, geometry-back, machine-back}
+use Rattle.run_laws.proofs.Joins.{run-going}
+use Rattle.run_laws.proofs.Answers.{accepted-is, answer-run, machine-at, steps-packed}
+
+apart : {A : Type 0} → _≡_ {A = Bool} true false → A
+apart z = let n : _≡_ {A = ℕ} 0 1 = ap (λ (b : Bool). cond b 0 1) z in absurd (omega arith)
+
+-- ---- a run that completes a step was not refused, and had not stopped before it
+
+-- what a call that completes a step has passed
+record Passed (ram : List ℕ) (n k : ℕ) (s : State) : Type 0 where
+  ok : ramLength (length ram) ≡ true
+  most : n ≤ mostSteps
+  steps : k ≤ runOf n s .steps
+
+passed-by : (b d : Bool) (m ram : List ℕ) (n k : ℕ) → ramLength (length ram) ≡ b → leb n mostSteps ≡ d → suc k ≤ stepsIn (cond b (cond d (finished (runOf n (machineOf m ram))) (refused 4 m ram)) (refused 3 m ram)) → Passed ram n (suc k) (machineOf m ram)
+passed-by true true m ram n k p q h =
+    let l : n ≤ mostSteps = leb-true n mostSteps q in
+    let r = runOf n (machineOf m ram) in
+    let t : r .steps < 1048576 = omega (arith, run-going n (machineOf m ram) .most) in
+    record { ok = p; most = l; steps = rw (steps-packed (r .stop) (r .steps) t) at h }
+passed-by true false m ram n k p q h = absurd (omega arith)
+passed-by false d m ram n k p q h = absurd (omega arith)
+
+passed : (m ram : List ℕ) (n k : ℕ) → Accepted m → suc k ≤ stepsIn (answerOf m ram n) → Passed ram n (suc k) (machineOf m ram)
+passed m ram n k a h = passed-by (ramLength (length ram)) (leb n mostSteps) m ram n k refl refl (rw (accepted-is m ram n a) at h)
+
+-- a run that has stopped has completed fewer steps than it was asked for
+fewer-by : (b d : Bool) (n : ℕ) (r : Run) (t : Tick) → r .stop ≡ b → t .stop ≡ d → r .steps ≤ n → (r .stop ≡ true → r .steps < n) → cond b r (further r t) .stop ≡ true → cond b r (further r t) .steps < suc n
+fewer-by true d n r t e f le h x = omega (arith, h e)
+fewer-by false true n r t e f le h x = rw f (omega arith)
+fewer-by false false n r t e f le h x = apart (sym x ∙ f)
+
+fewer : (n : ℕ) (s : State) → runOf n s .stop ≡ true → runOf n s .steps < n
+unfolding runOf onwards
+fewer zero s h = apart (sym h)
+fewer (suc n) s h =
+    fewer-by (runOf n s .stop) (stepOf (runOf n s .last) .stop) n (runOf n s) (stepOf (runOf n s .last)) refl refl (run-going n s .most) (fewer n s) h
+
+not-stopped-by : (b : Bool) (n k : ℕ) (s : State) → runOf k s .stop ≡ b → k ≤ n → k ≤ runOf n s .steps → runOf k s .stop ≡ false
+not-stopped-by false n k s e le h = e
+not-stopped-by true n k s e le h =
+    let f : runOf k s .steps < k = fewer k s e in
+    let len : k + (n - k) ≡ n = omega arith in
+    let same : runOf n s ≡ runOf k s = rw len at (stays k (n - k) s e) in
+    let x : runOf n s .steps ≡ runOf k s .steps = ap (λ (r : Run). r .steps) same in
+    absurd (omega arith)
+
+not-stopped : (n k : ℕ) (s : State) → k ≤ runOf n s .steps → runOf k s .stop ≡ false
+not-stopped n k s h = not-stopped-by (runOf k s .stop) n k s refl (omega (arith, run-going n s .most)) h
+
+-- so the machine after k + 1 steps is one step after the machine after k
+last-by : (b : Bool) (r : Run) → r .stop ≡ b → b ≡ false → onwards r .last ≡ stepOf (r .last) .after
+unfolding onwards
+last-by false r e f = rw e
+last-by true r e f = apart f
+
+last-is : (k : ℕ) (s : State) → runOf k s .stop ≡ false → runOf (suc k) s .last ≡ stepOf (runOf k s .last) .after
+unfolding runOf
+last-is k s e = last-by (runOf k s .stop) (runOf k s) refl e
+
+-- ---- the step that carries out a listed command
+next-geometry : (s : State) → nextStep s .geometry ≡ s .geometry
+unfolding nextStep
+next-geometry s = refl
+
+effect-is : (o : Op) (word : ℕ) (s : State) (x y z : ℕ) → o ≡ D.Command → outcomeOf word ≡ O.Done → performOf (executeOf o (fieldsOf word) x y z (s .control .product)) s .after .geometry ≡ commandOf word (s .geometry)
+unfolding executeOf performOf fieldsOf nextStep
+effect-is o word s x y z e d = rw (e, d)
+
+carried : (word : ℕ) (s : State) → CarriesOut word s → outcomeOf word ≡ O.Done → stepOf s .after .geometry ≡ commandOf word (s .geometry)
+unfolding stepOf issueOf
+carried word s c d = rw (c .fetched, c .usable) (effect-is (decodeOf word) word s _ _ _ (c .command) d)
+
+goes-done : (c : Command) (v r : ℕ) → Goes c v r → listed c ≡ O.Done
+goes-done c v r single = refl
+goes-done c v r first = refl
+goes-done c v r second = refl
+goes-done c v r third = refl
+
+done : (word v r : ℕ) → Goes (commandIn word) v r → outcomeOf word ≡ O.Done
+unfolding outcomeOf
+done word v r g = goes-done (commandIn word) v r g
+
+-- ---- the theorem
+pub run-demand-3 : Demand3
+run-demand-3 m ram n k word v r a h c sf clear g =
+    let s = machineOf m ram in
+    let p = passed m ram n k a h in
+    let t = runOf k s .last in
+    let u = runOf (suc k) s .last in
+    let enough : suc k ≤ n = omega (arith, p .steps, run-going n s .most) in
+    let before : answerOf m ram k ≡ finished (runOf k s) = answer-run m ram k a (p .ok) (omega (arith, p .most)) in
+    let after : answerOf m ram (suc k) ≡ finished (runOf (suc k) s) = answer-run m ram (suc k) a (p .ok) (omega (arith, p .most)) in
+    let ft = machine-at m ram k a in
+    let fu = machine-at m ram (suc k) a in
+    let gt : geometryIn (imageOf t) ≡ t .geometry = geometry-back t ft in
+    let gu : geometryIn (imageOf u) ≡ u .geometry = geometry-back u fu in
+    let ct : CarriesOut word t = rw (before, machine-back t ft) at c in
+    let step : u .geometry ≡ commandOf word (t .geometry) =
+          ap (λ (x : State). x .geometry) (last-is k s (not-stopped n k s (omega (arith, p .steps)))) ∙ carried word t ct (done word v r g) in
+    let bit : bitAt 31 (reg (commandOf word (t .geometry)) 63) ≡ false = rw (after, gu, step) at clear in
+    rw (before, after, gt, gu, step) (demand-3 word (t .geometry) (geometry-long (t .geometry) (ft .geometry)) sf bit v r g)

@@ -1,0 +1,4 @@
+pub mod Machine
+pub mod Joins
+pub mod Answers
+pub mod Demand

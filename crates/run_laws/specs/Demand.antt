@@ -1,0 +1,40 @@
+-- Demand 3 over runs, in whole numbers (01 "GTE arithmetic").
+use mathlib.Core.Bool.{true, false}
+use mathlib.Core.List.{List}
+use mathlib.Core.Path.{_≡_}
+use Prim.Native.Nat.{ℕ, suc, _≤_}
+use Rattle.decode.specs.Decode.{decodeOf, ownerOf}
+use Rattle.decode.specs.declared.Op.the-variants.{Command}
+use Rattle.memory.specs.declared.LoadKind.the-variants.{Word}
+use Rattle.memory.specs.declared.Loaded.the-variants.{Value}
+use Rattle.control.specs.System.{usableOf}
+use Rattle.effects.specs.Effects.{State}
+use Rattle.processor.specs.Step.{loaded}
+use Rattle.gte_arithmetic.specs.Checks.{bitAt}
+use Rattle.gte_registers.specs.Registers.{reg}
+use Rattle.gte.specs.Commands.{commandIn, sfOf}
+use Rattle.gte_laws.specs.Demand.{tolerance, Near, Goes}
+use Rattle.image.specs.Image.{geometryIn, machineOf}
+use Rattle.fliskadee.specs.Answer.{answerOf}
+use Rattle.run_laws.specs.Runs.{Accepted, stepsIn}
+
+-- the next step carries out a COP2 command word: it is fetched, and usable, so the step takes no exception
+pub record CarriesOut (word : ℕ) (s : State) : Type 0 where
+  pub fetched : loaded Word 0 (s .control .flow .pc) s ≡ Value word
+  pub usable : usableOf (ownerOf word) (s .control .system) ≡ true
+  pub command : decodeOf word ≡ Command
+
+-- Step k + 1 of any run from an accepted image that the run completes, n being the run's count: the image before the step is what
+-- a run from the same start leaves with count k, the image after it what one leaves with count k + 1. The step carries out RTPS
+-- or RTPT with sf = 1, and bit 31 of register 63 is clear after it. Then each vertex v, which went to register r, is near its exact
+-- place, which `Near` works out from the registers before.
+abbrev pub Demand3 : Type 0
+Demand3 =
+    (m ram : List ℕ) (n k word v r : ℕ)
+    → Accepted m
+    → suc k ≤ stepsIn (answerOf m ram n)
+    → CarriesOut word (machineOf (answerOf m ram k .image) (answerOf m ram k .ram))
+    → sfOf word ≡ true
+    → bitAt 31 (reg (geometryIn (answerOf m ram (suc k) .image)) 63) ≡ false
+    → Goes (commandIn word) v r
+    → Near tolerance (geometryIn (answerOf m ram k .image)) v (reg (geometryIn (answerOf m ram (suc k) .image)) r)

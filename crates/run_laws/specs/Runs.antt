@@ -1,0 +1,62 @@
+-- Laws of runs: one step more, a steps and then b, and an accepted image is accepted again (demand 1).
+use mathlib.Core.Bool.{Bool, true, cond, _||_}
+use mathlib.Core.List.{List}
+use mathlib.Core.Path.{_≡_}
+use Prim.Native.Nat.{ℕ, suc, _+_, _/_, _%_, _≤_}
+use lib.Dec.{eqb}
+use lib.ListN.{length}
+use Rattle.effects.specs.Effects.{State}
+use Rattle.memory.specs.Addresses.{ramLength}
+use Rattle.image.specs.Image.{imageLength, wellFormed}
+use Rattle.run.specs.Run.{Run, ran, onwards, runOf}
+use Rattle.fliskadee.specs.Answer.{Answer, mostSteps, answerOf}
+
+-- ---- on machines
+
+-- a run of k + 1 steps is one step after a run of k
+abbrev pub OneMore : Type 0
+OneMore = (k : ℕ) (s : State) → runOf (suc k) s ≡ onwards (runOf k s)
+
+-- a run and then another: stopped if one of them is, with the steps of both
+abbrev pub joined : Run → Run → Run
+joined r q = ran (r .stop || q .stop) (r .steps + q .steps) (q .last)
+
+abbrev pub ThenMore : Type 0
+ThenMore = (a b : ℕ) (s : State) → runOf (a + b) s ≡ joined (runOf a s) (runOf b (runOf a s .last))
+
+-- ---- on images, as a host sees them
+
+-- codes 1 and 2 do not refuse it
+pub record Accepted (m : List ℕ) : Type 0 where
+  pub long : length m ≡ imageLength
+  pub formed : wellFormed m ≡ true
+
+-- the answer's number, taken apart
+abbrev pub codeIn : Answer → ℕ
+codeIn a = a .number / 1048576
+
+abbrev pub stepsIn : Answer → ℕ
+stepsIn a = a .number % 1048576
+
+-- every call leaves an accepted image accepted, and RAM as long as it was
+pub record Again (m ram : List ℕ) (count : ℕ) : Type 0 where
+  pub accepted : Accepted (answerOf m ram count .image)
+  pub long : length (answerOf m ram count .ram) ≡ length ram
+
+abbrev pub AcceptedAgain : Type 0
+AcceptedAgain = (m ram : List ℕ) (count : ℕ) → Accepted m → Again m ram count
+
+-- a steps and then b from what they left are a + b steps: in image, RAM, steps and code
+pub record Cut (first second whole : Answer) : Type 0 where
+  pub image : whole .image ≡ second .image
+  pub ram : whole .ram ≡ second .ram
+  pub steps : stepsIn whole ≡ stepsIn first + stepsIn second
+  pub code : codeIn whole ≡ cond (eqb (codeIn first) 5) 5 (codeIn second)
+
+abbrev pub CutInTwo : Type 0
+CutInTwo =
+    (m ram : List ℕ) (a b : ℕ)
+    → Accepted m
+    → ramLength (length ram) ≡ true
+    → a + b ≤ mostSteps
+    → Cut (answerOf m ram a) (answerOf (answerOf m ram a .image) (answerOf m ram a .ram) b) (answerOf m ram (a + b))
