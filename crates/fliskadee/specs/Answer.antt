@@ -7,6 +7,7 @@ use lib.ListN.{length}
 use Rattle.memory.specs.Addresses.{ramLength}
 use Rattle.image.specs.Image.{imageLength, wellFormed, machineOf, imageOf}
 use Rattle.run.specs.Run.{Run, runOf}
+use Rattle.search.specs.Search.{Search, searchOf}
 
 pub record Answer : Type 0 where
   pub number : ℕ
@@ -20,6 +21,23 @@ answer n i m = record { number = n; image = i; ram = m }
 abbrev pub packed : ℕ → ℕ → ℕ
 packed code steps = code * 1048576 + steps
 
+-- ---- refusals
+abbrev pub mostSteps : ℕ
+mostSteps = 1000000
+
+-- codes 1 to 4 are tested in the table's order; 0: the call is not refused
+unfoldable pub afterFormed : Bool → ℕ → ℕ → ℕ
+afterFormed formed len count = cond formed (cond (ramLength len) (cond (leb count mostSteps) 0 4) 3) 2
+
+unfoldable pub refusalOf : List ℕ → ℕ → ℕ → ℕ
+refusalOf m len count = cond (eqb (length m) imageLength) (afterFormed (wellFormed m) len count) 1
+
+-- refused: no step is done, and nothing has changed
+abbrev pub unlessRefused : ℕ → List ℕ → List ℕ → Answer → Answer
+unlessRefused code m ram a = cond (eqb code 0) a (answer (packed code 0) m ram)
+
+-- ---- the run
+
 -- code 5: steps remain, and the next instruction is a usable COP2 command that is not listed; 0: all steps done
 abbrev pub codeOf : Bool → ℕ
 codeOf stop = cond stop 5 0
@@ -28,20 +46,12 @@ codeOf stop = cond stop 5 0
 abbrev pub finished : Run → Answer
 finished r = answer (packed (codeOf (r .stop)) (r .steps)) (imageOf (r .last)) (r .last .ram)
 
--- refused: no step is done, and nothing has changed
-abbrev pub refused : ℕ → List ℕ → List ℕ → Answer
-refused code m ram = answer (packed code 0) m ram
-
-abbrev pub mostSteps : ℕ
-mostSteps = 1000000
-
--- codes 1 to 4 are tested in the table's order
 unfoldable pub answerOf : List ℕ → List ℕ → ℕ → Answer
-answerOf m ram count =
-    cond (eqb (length m) imageLength)
-    (cond (wellFormed m)
-    (cond (ramLength (length ram))
-    (cond (leb count mostSteps) (finished (runOf count (machineOf m ram))) (refused 4 m ram))
-    (refused 3 m ram))
-    (refused 2 m ram))
-    (refused 1 m ram)
+answerOf m ram count = unlessRefused (refusalOf m (length ram) count) m ram (finished (runOf count (machineOf m ram)))
+
+-- ---- the run that ends where a bit of a mask comes up in FLAG: code 16
+abbrev pub found : Search → Answer
+found r = answer (packed (r .code) (r .steps)) (imageOf (r .last)) (r .last .ram)
+
+unfoldable pub findOf : List ℕ → List ℕ → ℕ → ℕ → Answer
+findOf m ram count mask = unlessRefused (refusalOf m (length ram) count) m ram (found (searchOf mask count (machineOf m ram)))

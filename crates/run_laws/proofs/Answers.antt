@@ -11,18 +11,18 @@ use Rattle.effects.specs.Effects.{State}
 use Rattle.memory.specs.Addresses.{ramLength}
 use Rattle.image.specs.Image.{wellFormed, machineOf, imageOf}
 use Rattle.run.specs.Run.{Run, ran, runOf}
-use Rattle.fliskadee.specs.Answer.{Answer, answer, packed, codeOf, finished, refused, mostSteps, answerOf}
+use Rattle.fliskadee.specs.Answer.{Answer, answer, packed, codeOf, finished, unlessRefused, mostSteps, afterFormed, refusalOf, answerOf}
 use Rattle.step_laws.specs.Formed.{StateFormed}
 use Rattle.run_laws.specs.Runs.{joined, Accepted, codeIn, stepsIn, Again, AcceptedAgain, Cut, CutInTwo}
 use Rattle.run_laws.proofs.Machine.{machine-formed, machine-back, image-accepted}
 use Rattle.run_laws.proofs.Joins.{Going, run-going, run-formed, then-more}
 
 -- ---- a call with an accepted image
-abbrev afterRefusals : List ℕ → List ℕ → ℕ → Bool → Bool → Answer
-afterRefusals m ram count b d = cond b (cond d (finished (runOf count (machineOf m ram))) (refused 4 m ram)) (refused 3 m ram)
+abbrev pub afterRefusals : List ℕ → List ℕ → ℕ → Bool → Bool → Answer
+afterRefusals m ram count b d = unlessRefused (cond b (cond d 0 4) 3) m ram (finished (runOf count (machineOf m ram)))
 
 pub accepted-is : (m ram : List ℕ) (count : ℕ) → Accepted m → answerOf m ram count ≡ afterRefusals m ram count (ramLength (length ram)) (leb count mostSteps)
-unfolding answerOf
+unfolding answerOf refusalOf afterFormed
 accepted-is m ram count a = rw (eq-eqb _ _ (a .long), a .formed)
 
 pub answer-run : (m ram : List ℕ) (count : ℕ) → Accepted m → ramLength (length ram) ≡ true → count ≤ mostSteps → answerOf m ram count ≡ finished (runOf count (machineOf m ram))
@@ -83,6 +83,6 @@ cut-in-two m ram a b acc ok h =
     let kept : ramLength (length (r .last .ram)) ≡ true = rw (run-going a s .long) ok in
     let first : answerOf m ram a ≡ finished r = answer-run m ram a acc ok (omega arith) in
     let second : answerOf (imageOf (r .last)) (r .last .ram) b ≡ finished q =
-          answer-run (imageOf (r .last)) (r .last .ram) b (image-accepted (r .last) g) kept (omega arith) ∙ ap (λ (t : State). finished (runOf b t)) (machine-back (r .last) g) in
+    answer-run (imageOf (r .last)) (r .last .ram) b (image-accepted (r .last) g) kept (omega arith) ∙ ap (λ (t : State). finished (runOf b t)) (machine-back (r .last) g) in
     let whole : answerOf m ram (a + b) ≡ finished (joined r q) = answer-run m ram (a + b) acc ok h ∙ ap finished (then-more a b s) in
     rw (first, whole, second) (cut-runs r q a b h (run-going a s .most) (run-going b (r .last) .most))

@@ -24,13 +24,13 @@ use Rattle.gte_laws.proofs.Demand.{demand-3}
 use Rattle.image.specs.Image.{geometryIn, machineOf, imageOf}
 use Rattle.run.specs.Run.{Run, ran, further, onwards, runOf}
 use Rattle.run.proofs.Steps.{stays}
-use Rattle.fliskadee.specs.Answer.{Answer, packed, codeOf, finished, refused, mostSteps, answerOf}
+use Rattle.fliskadee.specs.Answer.{Answer, packed, codeOf, finished, mostSteps, answerOf}
 use Rattle.step_laws.specs.Formed.{StateFormed}
 use Rattle.run_laws.specs.Runs.{Accepted, stepsIn}
 use Rattle.run_laws.specs.Demand.{CarriesOut, Demand3}
 use Rattle.run_laws.proofs.Machine.{geometry-long, geometry-back, machine-back}
 use Rattle.run_laws.proofs.Joins.{run-going}
-use Rattle.run_laws.proofs.Answers.{accepted-is, answer-run, machine-at, steps-packed}
+use Rattle.run_laws.proofs.Answers.{afterRefusals, accepted-is, answer-run, machine-at, steps-packed}
 
 apart : {A : Type 0} → _≡_ {A = Bool} true false → A
 apart z = let n : _≡_ {A = ℕ} 0 1 = ap (λ (b : Bool). cond b 0 1) z in absurd (omega arith)
@@ -43,7 +43,7 @@ record Passed (ram : List ℕ) (n k : ℕ) (s : State) : Type 0 where
   most : n ≤ mostSteps
   steps : k ≤ runOf n s .steps
 
-passed-by : (b d : Bool) (m ram : List ℕ) (n k : ℕ) → ramLength (length ram) ≡ b → leb n mostSteps ≡ d → suc k ≤ stepsIn (cond b (cond d (finished (runOf n (machineOf m ram))) (refused 4 m ram)) (refused 3 m ram)) → Passed ram n (suc k) (machineOf m ram)
+passed-by : (b d : Bool) (m ram : List ℕ) (n k : ℕ) → ramLength (length ram) ≡ b → leb n mostSteps ≡ d → suc k ≤ stepsIn (afterRefusals m ram n b d) → Passed ram n (suc k) (machineOf m ram)
 passed-by true true m ram n k p q h =
     let l : n ≤ mostSteps = leb-true n mostSteps q in
     let r = runOf n (machineOf m ram) in
@@ -128,6 +128,6 @@ run-demand-3 m ram n k word v r a h c sf clear g =
     let gu : geometryIn (imageOf u) ≡ u .geometry = geometry-back u fu in
     let ct : CarriesOut word t = rw (before, machine-back t ft) at c in
     let step : u .geometry ≡ commandOf word (t .geometry) =
-          ap (λ (x : State). x .geometry) (last-is k s (not-stopped n k s (omega (arith, p .steps)))) ∙ carried word t ct (done word v r g) in
+    ap (λ (x : State). x .geometry) (last-is k s (not-stopped n k s (omega (arith, p .steps)))) ∙ carried word t ct (done word v r g) in
     let bit : bitAt 31 (reg (commandOf word (t .geometry)) 63) ≡ false = rw (after, gu, step) at clear in
     rw (before, after, gt, gu, step) (demand-3 word (t .geometry) (geometry-long (t .geometry) (ft .geometry)) sf bit v r g)

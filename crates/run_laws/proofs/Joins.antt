@@ -36,6 +36,7 @@ step-on n s r t e k g = record { most = by-stop (t .stop); long = k .long ∙ g 
     by-stop : (b : Bool) → cond b (r .steps) (r .steps + 1) ≤ suc n
     by-stop true = omega (arith, g .most)
     by-stop false = omega (arith, g .most)
+
     again : t .stop ≡ true → stepOf (t .after) ≡ tick true (t .after)
     again h =
         let a : t .after ≡ r .last = k .stays h in

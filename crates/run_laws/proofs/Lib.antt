@@ -2,3 +2,4 @@ pub mod Machine
 pub mod Joins
 pub mod Answers
 pub mod Demand
+pub mod Searches

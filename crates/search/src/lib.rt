@@ -1,0 +1,82 @@
+// A run that ends at the first step at which a bit of FLAG comes up.
+ghost use mathlib.Core.Path.{_≡_};
+ghost use mathlib.Core.Bool.{_&&_, not};
+ghost use Prim.Native.Nat.{_≤_};
+ghost use lib.Bits.{bitAnd};
+ghost use lib.Dec.{eqb};
+ghost use Rattle.memory.specs.Addresses.{RamOk};
+ghost use Rattle.gte_registers.specs.Registers.{view, reg};
+ghost use Rattle.effects.specs.Effects.{state};
+ghost use Rattle.search.specs.Search.{sought, searchOf};
+use control::Control;
+use gte_registers::register::read;
+use processor::step;
+
+// code: 0 where count steps are done, 5 before an unlisted COP2 command, 16 where a bit has come up.
+pub struct Sought {
+    pub code: u64,
+    pub steps: u64,
+    pub control: Control,
+}
+
+// None of a mask's bits is set in FLAG.
+fn is_clear(g: &[u32; 64], mask: u32) -> bool
+    ensures { λ r. ⌜ r ≡ eqb (bitAnd (reg (view (now (g .entry))) 63) mask) 0 ⌝ }
+{
+    read(g, 63) & mask == 0
+}
+
+fn rises(before: bool, after: bool) -> bool
+    ensures { λ r. ⌜ r ≡ (before && not after) ⌝ }
+{
+    if before {
+        if after { false } else { true }
+    } else {
+        false
+    }
+}
+
+// count steps, or fewer where the machine stops or a bit comes up.
+pub fn search_steps(
+    first: Control,
+    r: &mut [u32; 32],
+    g: &mut [u32; 64],
+    ram: &mut [u8],
+    count: u64,
+    mask: u32,
+) -> Sought
+    requires { ⌜ RamOk (now ram) ⌝ }
+    ensures is { λ d. ⌜ sought (d .code) (d .steps) (state (d .control) (now (r .exit)) (view (now (g .exit))) (now (ram .exit))) ≡ searchOf mask count (state first (now (r .entry)) (view (now (g .entry))) (now (ram .entry))) ⌝ }
+    ensures within { λ d. ⌜ d .steps ≤ count ⌝ }
+    ensures small { λ d. ⌜ d .code ≤ 16 ⌝ }
+{
+    let mut c = first;
+    let mut clear = is_clear(g, mask);
+    let mut i: u64 = 0;
+    while i < count {
+        let d = step(c, r, g, ram);
+        c = d.control;
+        if d.stop {
+            return Sought {
+                code: 5,
+                steps: i,
+                control: c,
+            };
+        }
+        i += 1;
+        let after = is_clear(g, mask);
+        if rises(clear, after) {
+            return Sought {
+                code: 16,
+                steps: i,
+                control: c,
+            };
+        }
+        clear = after;
+    }
+    Sought {
+        code: 0,
+        steps: i,
+        control: c,
+    }
+}
