@@ -7,7 +7,7 @@ use lib.ListN.{length}
 use Rattle.memory.specs.Addresses.{ramLength}
 use Rattle.image.specs.Image.{imageLength, wellFormed, machineOf, imageOf}
 use Rattle.run.specs.Run.{Run, runOf}
-use Rattle.search.specs.Search.{Search, searchOf}
+use Rattle.run.specs.Search.{Search, searchOf}
 
 pub record Answer : Type 0 where
   pub number : ℕ

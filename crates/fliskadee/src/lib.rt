@@ -1,22 +1,20 @@
 // What the host in C calls.
 ghost use mathlib.Core.List.{List};
 ghost use mathlib.Core.Path.{_≡_};
-ghost use Prim.Native.Nat.{ℕ, _+_, _*_, _^_, _≤_};
+ghost use Prim.Native.Nat.{ℕ, _+_, _*_, _^_};
 ghost use lib.ListN.{length};
 ghost use Rattle.gte_registers.specs.Registers.{view};
 ghost use Rattle.effects.specs.Effects.{state};
 ghost use Rattle.image.specs.Image.{wellFormed, machineOf};
 ghost use Rattle.window.specs.Window.{windowAt, windowLength};
-ghost use Rattle.fliskadee.specs.Answer.{answer, codeOf, packed, afterFormed, refusalOf, answerOf, findOf};
+ghost use Rattle.fliskadee.specs.Answer.{answer, afterFormed, refusalOf, answerOf, findOf};
 use control::Control;
 use image::control_from;
 use image::well_formed;
 use image::write_image;
 use memory::Virt;
 use memory::ram_length;
-use run::Ran;
-use run::run_steps;
-use search::search_steps;
+use run::run_until;
 use window::part_of;
 use words::bytes::read_words;
 
@@ -70,14 +68,6 @@ fn admit(image: &[u8], len: usize, count: u64) -> Admitted
     }
 }
 
-// The number of a run that was not refused.
-fn number_of(d: Ran) -> u64
-    requires { ⌜ d .steps ≤ 1000000 ⌝ }
-    ensures { λ n. ⌜ n ≡ packed (codeOf (d .stop)) (d .steps) ⌝ }
-{
-    if d.stop { 0x50_0000 + d.steps } else { d.steps }
-}
-
 // At most count steps of the machine that an image and RAM describe.
 #[no_mangle]
 pub extern "C" fn fliskadee_run(image: &mut [u8], ram: &mut [u8], count: u64) -> u64
@@ -90,10 +80,10 @@ pub extern "C" fn fliskadee_run(image: &mut [u8], ram: &mut [u8], count: u64) ->
     let first = a.control;
     let mut r = a.registers;
     let mut g = a.geometry;
-    let d = run_steps(first, &mut r, &mut g, ram, count);
+    let d = run_until(first, &mut r, &mut g, ram, count, 0);
     let last = d.control;
     write_image(image, last, &r, &g);
-    number_of(d)
+    d.code * 0x10_0000 + d.steps
 }
 
 // The same, ended after the first step at which a bit of the mask comes up in FLAG: code 16.
@@ -113,7 +103,7 @@ pub extern "C" fn fliskadee_find_flag(
     let first = a.control;
     let mut r = a.registers;
     let mut g = a.geometry;
-    let d = search_steps(first, &mut r, &mut g, ram, count, mask);
+    let d = run_until(first, &mut r, &mut g, ram, count, mask);
     let last = d.control;
     write_image(image, last, &r, &g);
     d.code * 0x10_0000 + d.steps

@@ -10,7 +10,7 @@ use Rattle.effects.specs.Effects.{State}
 use Rattle.processor.specs.Step.{Tick, tick, stepOf}
 use Rattle.run.specs.Run.{Run, ran, onwards, runOf}
 use Rattle.run.proofs.Steps.{goes-on}
-use Rattle.search.specs.Search.{risesOf, foundOf, Search, sought, furtherBy, searchOn, searchOf}
+use Rattle.run.specs.Search.{risesOf, foundOf, Search, sought, furtherBy, searchOn, searchOf}
 use Rattle.step_laws.proofs.Kept.{step-kept}
 use Rattle.run_laws.specs.Searches.{risesAt, Searched, SearchExact}
 

@@ -6,7 +6,7 @@ use lib.Dec.{eqb}
 use Rattle.effects.specs.Effects.{State}
 use Rattle.processor.specs.Step.{stepOf}
 use Rattle.run.specs.Run.{ran, runOf}
-use Rattle.search.specs.Search.{risesOf, Search, searchOf}
+use Rattle.run.specs.Search.{risesOf, Search, searchOf}
 
 -- step i + 1 of the run from s brings a bit of the mask up
 abbrev pub risesAt : ℕ → State → ℕ → Bool

@@ -1,0 +1,80 @@
+-- After i turns the machine is where a search of i steps stands, and goes on.
+use borrow.Author.Needs.{needs}
+use native.Mathlib.Omega.{arith}
+use mathlib.Core.Bool.{true, false}
+use mathlib.Core.Path.{refl, sym, _∙_}
+use Prim.Native.Nat.{_-_}
+use Rattle.gte_registers.specs.Registers.{view}
+use Rattle.effects.specs.Effects.{state}
+use Rattle.run.proofs.Turns.{After, none, goes-on, over, stops, ends}
+use Rattle.run.proofs.run_until.Statement.{statement}
+use Rattle.run.proofs.run_until.Tie as tie
+
+abbrev Inv-loop : tie.InvT-loop
+Inv-loop r₀ g₀ ram₀ count mask c₀ clear₀ i₀ r g ram c clear i = After mask count i clear ram₀ ram (state c₀ r₀ (view g₀) ram₀) (state c r (view g) ram)
+
+abbrev μ-loop : tie.MeasureT-loop
+μ-loop r₀ g₀ ram₀ count mask c₀ clear₀ i₀ r g ram c clear i = count - i
+
+is-clear-requires : tie.Need-is-clear-requires Inv-loop μ-loop
+is-clear-requires c κs = search needs
+
+loop-holds : tie.Need-loop-holds Inv-loop μ-loop
+loop-holds c = record { below = search needs; long = refl; flag = c .is-clear .ensures; run = none _ _ }
+
+step-requires : tie.Need-step-requires Inv-loop μ-loop
+step-requires c κs = rw (c .before .before .before .before .loop .inv .long) (c .before .before .before .before .before .before .before .before .pre)
+
+same-length : tie.Need-same-length Inv-loop μ-loop
+same-length c = c .before .before .before .before .step .kept .1 .1 .1 .0 ∙ c .before .before .before .before .before .before .before .before .before .loop .inv .long
+
+returns : tie.Need-returns Inv-loop μ-loop
+returns c = (stops _ _ _ _ _ _ _ (c .before .before .before .before .before .before .before .before .loop-test .taken) (c .before .before .before .before .before .before .before .before .before .loop .inv .run) (c .before .before .before .before .step .ensures) (c .if1 .taken), (omega arith, omega arith))
+
+add-i : tie.Need-add-i Inv-loop μ-loop
+add-i c = omega arith
+
+is-clear-requires-2 : tie.Need-is-clear-requires-2 Inv-loop μ-loop
+is-clear-requires-2 c κs = search needs
+
+rises-requires : tie.Need-rises-requires Inv-loop μ-loop
+rises-requires c κs = search needs
+
+same-length-2 : tie.Need-same-length-2 Inv-loop μ-loop
+same-length-2 c = c .before .before .before .before .before .before .before .before .step .kept .1 .1 .1 .0 ∙ c .before .before .before .before .before .before .before .before .before .before .before .before .before .loop .inv .long
+
+returns-2 : tie.Need-returns-2 Inv-loop μ-loop
+returns-2 c = (over _ _ _ _ _ _ _ (omega arith) refl (goes-on _ _ _ _ _ _ true (c .before .before .before .before .before .before .before .before .before .before .before .before .before .loop .inv .run) (c .before .before .before .before .before .before .before .before .step .ensures) (c .before .before .before .before .if1 .left) (rw (← c .before .before .before .before .before .before .before .before .before .before .before .before .before .loop .inv .flag, ← c .before .before .is-clear2 .ensures, ← c .before .rises .ensures) (c .if2 .taken))), (omega arith, omega arith))
+
+loop-less : tie.Need-loop-less Inv-loop μ-loop
+loop-less c = omega arith
+
+loop-again : tie.Need-loop-again Inv-loop μ-loop
+loop-again c = record { below = omega arith; long = c .before .before .before .before .before .before .before .before .step .kept .1 .1 .1 .0 ∙ c .before .before .before .before .before .before .before .before .before .before .before .before .before .loop .inv .long; flag = c .before .before .is-clear2 .ensures; run = goes-on _ _ _ _ _ _ false (c .before .before .before .before .before .before .before .before .before .before .before .before .before .loop .inv .run) (c .before .before .before .before .before .before .before .before .step .ensures) (c .before .before .before .before .if1 .left) (rw (← c .before .before .before .before .before .before .before .before .before .before .before .before .before .loop .inv .flag, ← c .before .before .is-clear2 .ensures, ← c .before .rises .ensures) (c .if2 .left)) }
+
+same-length-3 : tie.Need-same-length-3 Inv-loop μ-loop
+same-length-3 c = c .before .loop .inv .long
+
+returns-3 : tie.Need-returns-3 Inv-loop μ-loop
+returns-3 c = (ends _ _ _ _ _ (c .before .loop .inv .below) (c .loop-test .left) (c .before .loop .inv .run), (c .before .loop .inv .below, omega arith))
+
+pub run-until-spec : {M : Type 1} → statement M
+run-until-spec =
+    tie.close
+    (tie.spec
+    Inv-loop
+    μ-loop
+    is-clear-requires
+    loop-holds
+    step-requires
+    same-length
+    returns
+    add-i
+    is-clear-requires-2
+    rises-requires
+    same-length-2
+    returns-2
+    loop-less
+    loop-again
+    same-length-3
+    returns-3)

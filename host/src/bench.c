@@ -1,0 +1,256 @@
+/*
+ * Benchmark: the library beside the model, in one process, in rounds that
+ * alternate between them. Figures are medians over the rounds.
+ *
+ *   bench [ROUNDS]
+ */
+#define _DEFAULT_SOURCE
+
+#include "encode.h"
+#include "fliskadee.h"
+#include "model.h"
+
+#include <stdio.h>
+#include <stdlib.h>
+#include <string.h>
+#include <time.h>
+
+#define MAXIMUM_ROUNDS 101
+#define RAM_BYTES 65536
+#define CODE 0x400
+#define DATA 0x8000
+
+typedef uint64_t run_function(uint8_t *, size_t, uint8_t *, size_t, uint64_t);
+
+/* One thing to time: a machine, and how it is run. */
+struct workload {
+    const char *name;
+    uint8_t image[MODEL_IMAGE_BYTES];
+    uint8_t ram[RAM_BYTES];
+    uint64_t count; /* steps of one call */
+    unsigned calls; /* calls in one round */
+    double units; /* what is reported, for each step: 1, or commands in a step */
+    const char *unit;
+};
+
+/* ---- Machines ---------------------------------------------------------------- */
+
+static void put_word(uint8_t *p, uint32_t w)
+{
+    p[0] = (uint8_t)w;
+    p[1] = (uint8_t)(w >> 8);
+    p[2] = (uint8_t)(w >> 16);
+    p[3] = (uint8_t)(w >> 24);
+}
+
+enum { ZERO = 0, T0 = 8, T1, T2, T3, T4, T5, T6, T7, S0, S1, S2 };
+
+/* Kernel mode, COP2 usable, registers of a camera that looks at three vertices in front of it. */
+static void fresh(struct workload *w)
+{
+    struct model m = {0};
+    static const struct {
+        unsigned number;
+        uint32_t value;
+    } camera[] = {
+        {0, 0x00640064}, {1, 1000}, {2, 0xFF9C0032}, {3, 1200}, {4, 0x0010FFF0}, {5, 900},
+        {32, 0x1000}, {34, 0x1000}, {36, 0x1000}, {39, 500}, {56, 160 << 16}, {57, 120 << 16}, {58, 300},
+        {59, 0xFF00}, {60, 0x1000000},
+    };
+    unsigned i;
+
+    memset(w->ram, 0, sizeof w->ram);
+    m.pc = 0x80000000 + CODE;
+    m.next_pc = m.pc + 4;
+    m.sr = 0x40000000;
+    m.general[S0] = 0x80000000 + DATA;
+    m.general[S1] = 1;
+    for (i = 0; i < sizeof camera / sizeof *camera; i++) {
+        model_cop2_write(&m, camera[i].number, camera[i].value);
+        if (i < 6)
+            put_word(w->ram + DATA + 0x20 + 4 * i, camera[i].value);
+    }
+    model_store(&m, w->image);
+}
+
+static void put_code(struct workload *w, const uint32_t *code, unsigned words)
+{
+    unsigned i;
+
+    for (i = 0; i < words; i++)
+        put_word(w->ram + CODE + 4 * i, code[i]);
+}
+
+/* Twelve ordinary instructions, a taken branch among them. */
+static void integer_loop(struct workload *w)
+{
+    const uint32_t code[] = {
+        encode_i(OP_LW, T0, S0, 0),
+        encode_i(OP_ADDIU, S1, S1, 1),
+        encode_r(F_SLL, T2, 0, S1, 3),
+        encode_r(F_XOR, T3, T2, T0, 0),
+        encode_r(F_ADDU, T1, T0, S1, 0),
+        encode_r(F_SRL, T4, 0, T3, 5),
+        encode_i(OP_SW, T4, S0, 4),
+        encode_i(OP_ANDI, T5, S1, 0xFF),
+        encode_i(OP_LBU, T6, S0, 5),
+        encode_r(F_SLT, T7, T5, T4, 0),
+        encode_i(OP_BNE, ZERO, S1, -11),
+        encode_r(F_SUBU, S2, S2, T7, 0),
+    };
+
+    fresh(w);
+    put_code(w, code, sizeof code / sizeof *code);
+    put_word(w->ram + DATA, 0x12345678);
+}
+
+/* Sixteen instructions around one RTPT: vertices in, screen points and FLAG out. */
+static void rtpt_in_16_loop(struct workload *w)
+{
+    const uint32_t code[] = {
+        encode_i(OP_LWC2, 0, S0, 0x20),
+        encode_i(OP_LWC2, 1, S0, 0x24),
+        encode_i(OP_LWC2, 2, S0, 0x28),
+        encode_i(OP_LWC2, 3, S0, 0x2C),
+        encode_i(OP_LWC2, 4, S0, 0x30),
+        encode_i(OP_LWC2, 5, S0, 0x34),
+        encode_command(0x30, 1, 0),
+        encode_i(OP_ADDIU, S1, S1, 1),
+        encode_move(2, 2, T0, 31),
+        encode_i(OP_SWC2, 12, S0, 0x40),
+        encode_i(OP_SWC2, 13, S0, 0x44),
+        encode_i(OP_SWC2, 14, S0, 0x48),
+        encode_r(F_SRL, T1, 0, T0, 31),
+        encode_r(F_OR, T2, T2, T1, 0),
+        encode_i(OP_BNE, ZERO, S1, -15),
+        encode_i(OP_SW, T2, S0, 0x4C),
+    };
+
+    fresh(w);
+    put_code(w, code, sizeof code / sizeof *code);
+}
+
+/* Nothing but RTPT and one jump, with RTPT in its delay slot. */
+#define RTPT_LOOP_WORDS 1024
+
+static void rtpt_loop(struct workload *w)
+{
+    uint32_t code[RTPT_LOOP_WORDS];
+    unsigned i;
+
+    for (i = 0; i < RTPT_LOOP_WORDS; i++)
+        code[i] = encode_command(0x30, 1, 0);
+    code[RTPT_LOOP_WORDS - 2] = encode_j(OP_J, CODE);
+    fresh(w);
+    put_code(w, code, RTPT_LOOP_WORDS);
+}
+
+/* ---- Timing -------------------------------------------------------------------- */
+
+struct sides {
+    uint8_t image[MODEL_IMAGE_BYTES];
+    uint8_t ram[RAM_BYTES];
+};
+
+static double now(void)
+{
+    struct timespec t;
+
+    clock_gettime(CLOCK_MONOTONIC, &t);
+    return (double)t.tv_sec + (double)t.tv_nsec * 1e-9;
+}
+
+/* Seconds of one round from the workload's start. */
+static double time_round(run_function *run, const struct workload *w, struct sides *s)
+{
+    double start;
+    unsigned i;
+
+    memcpy(s->image, w->image, sizeof s->image);
+    memcpy(s->ram, w->ram, sizeof s->ram);
+    start = now();
+    for (i = 0; i < w->calls; i++)
+        if (run(s->image, sizeof s->image, s->ram, sizeof s->ram, w->count) != w->count) {
+            fprintf(stderr, "bench: %s: a call did not complete\n", w->name);
+            exit(1);
+        }
+    return now() - start;
+}
+
+static int compare_doubles(const void *a, const void *b)
+{
+    double x = *(const double *)a, y = *(const double *)b;
+
+    return (x > y) - (x < y);
+}
+
+static double median(double *values, unsigned count)
+{
+    qsort(values, count, sizeof *values, compare_doubles);
+    return values[count / 2];
+}
+
+/* Prints rates and their ratio; answers whether both left the same machine. */
+static bool measure(const struct workload *w, unsigned rounds)
+{
+    static struct sides library, model;
+    double library_times[MAXIMUM_ROUNDS], model_times[MAXIMUM_ROUNDS], steps = (double)w->count * w->calls;
+    double library_median, model_median;
+    unsigned i;
+
+    for (i = 0; i < rounds; i++) {
+        library_times[i] = time_round(fliskadee_run, w, &library);
+        model_times[i] = time_round(model_run, w, &model);
+        if (memcmp(&library, &model, sizeof library) != 0) {
+            printf("%s: library and model leave different machines\n", w->name);
+            return false;
+        }
+    }
+    library_median = median(library_times, rounds);
+    model_median = median(model_times, rounds);
+    printf("%-34s %10.2f %10.2f M%s/s %9.2f %9.2f ns %8.2f\n", w->name, steps * w->units / library_median * 1e-6,
+           steps * w->units / model_median * 1e-6, w->unit, library_median / (steps * w->units) * 1e9,
+           model_median / (steps * w->units) * 1e9, model_median / library_median);
+    return true;
+}
+
+int main(int argc, char **argv)
+{
+    static struct workload w;
+    static const struct {
+        const char *name;
+        void (*prepare)(struct workload *);
+        uint64_t count;
+        unsigned calls;
+        double units;
+        const char *unit;
+    } workloads[] = {
+        {"integer loop", integer_loop, 1000000, 1, 1, " steps"},
+        {"one RTPT in 16", rtpt_in_16_loop, 1000000, 1, 1, " steps"},
+        {"RTPT alone", rtpt_loop, 200000, 1, (RTPT_LOOP_WORDS - 1.0) / RTPT_LOOP_WORDS, " RTPT"},
+        {"calls of one step", integer_loop, 1, 20000, 1, " calls"},
+        {"integer loop, calls of 1,000", integer_loop, 1000, 1000, 1, " steps"},
+        {"integer loop, calls of 1,000,000", integer_loop, 1000000, 1, 1, " steps"},
+    };
+    unsigned rounds = 15, i;
+    bool same = true;
+
+    if (argc > 1)
+        rounds = (unsigned)strtoul(argv[1], NULL, 10);
+    if (argc > 2 || rounds == 0 || rounds > MAXIMUM_ROUNDS) {
+        fprintf(stderr, "usage: bench [ROUNDS], 1 to %d rounds\n", MAXIMUM_ROUNDS);
+        return 2;
+    }
+    printf("%u rounds, medians          %17s %10s %21s %9s %11s\n", rounds, "library", "model", "library", "model", "ratio");
+    for (i = 0; i < sizeof workloads / sizeof *workloads; i++) {
+        workloads[i].prepare(&w);
+        w.name = workloads[i].name;
+        w.count = workloads[i].count;
+        w.calls = workloads[i].calls;
+        w.units = workloads[i].units;
+        w.unit = workloads[i].unit;
+        same &= measure(&w, rounds);
+    }
+    printf("ratio: the library's speed over the model's\n");
+    return same ? 0 : 1;
+}

@@ -1,0 +1,876 @@
+/*
+ * The generator. Cases are weighted so that every instruction, GTE command,
+ * exception and refusal comes up often, and values so that limits are met
+ * exactly as well as passed.
+ */
+#include "generate.h"
+
+#include "encode.h"
+
+#include <stdbool.h>
+#include <string.h>
+
+/* ---- Random numbers: xoshiro256**, seeded by splitmix64 -------------------- */
+
+struct random {
+    uint64_t state[4];
+};
+
+static uint64_t rotate(uint64_t value, int bits)
+{
+    return value << bits | value >> (64 - bits);
+}
+
+static uint64_t next(struct random *r)
+{
+    uint64_t *s = r->state;
+    uint64_t result = rotate(s[1] * 5, 7) * 9, t = s[1] << 17;
+
+    s[2] ^= s[0];
+    s[3] ^= s[1];
+    s[1] ^= s[2];
+    s[0] ^= s[3];
+    s[2] ^= t;
+    s[3] = rotate(s[3], 45);
+    return result;
+}
+
+static void seed_random(struct random *r, uint64_t seed, uint64_t number)
+{
+    uint64_t x = seed * 0x9E3779B97F4A7C15 ^ (number + 1) * 0xD1B54A32D192ED03;
+    int i;
+
+    for (i = 0; i < 4; i++) {
+        uint64_t z = x += 0x9E3779B97F4A7C15;
+
+        z = (z ^ z >> 30) * 0xBF58476D1CE4E5B9;
+        z = (z ^ z >> 27) * 0x94D049BB133111EB;
+        r->state[i] = z ^ z >> 31;
+    }
+}
+
+static uint32_t random_word(struct random *r)
+{
+    return (uint32_t)(next(r) >> 32);
+}
+
+/* 0..bound-1 */
+static uint32_t below(struct random *r, uint32_t bound)
+{
+    return (uint32_t)((uint64_t)random_word(r) * bound >> 32);
+}
+
+static bool chance(struct random *r, uint32_t percent)
+{
+    return below(r, 100) < percent;
+}
+
+#define COUNT_OF(array) (sizeof(array) / sizeof *(array))
+#define PICK(r, array) ((array)[below((r), COUNT_OF(array))])
+
+/* ---- Values at and around limits ------------------------------------------- */
+
+static uint32_t edge_half(struct random *r)
+{
+    static const uint16_t edges[] = {0, 0, 0, 1, 2, 0xFFFF, 0xFFFE, 0x7FFF, 0x7FFE, 0x8000, 0x8001, 0x4000, 0xC000,
+                                     0x0FFF, 0x1000, 0x1001, 0xF000, 0x0F80, 0x0FFE, 0x00FF, 0x0100, 0x007F, 0x0080,
+                                     0x03FF, 0x0400, 0xFC00, 0xFBFF, 0x001F, 0x0010};
+
+    switch (below(r, 8)) {
+    case 0: case 1: case 2: case 3: return PICK(r, edges);
+    case 4: return below(r, 64) & 0xFFFF;
+    case 5: return (0u - below(r, 64)) & 0xFFFF;
+    default: return random_word(r) & 0xFFFF;
+    }
+}
+
+static uint32_t edge_word(struct random *r)
+{
+    static const uint32_t edges[] = {0, 0, 1, 2, 0xFFFFFFFF, 0xFFFFFFFE, 0x7FFF, 0x8000, 0xFFFF8000, 0xFFFF7FFF, 0xFFFF,
+                                     0x10000, 0x7FFFFFFF, 0x80000000, 0x80000001, 0x7FFFFFFE, 0x55555555, 0xAAAAAAAA};
+
+    switch (below(r, 12)) {
+    case 0: case 1: case 2: case 3: return PICK(r, edges);
+    case 4: return 1u << below(r, 32);
+    case 5: return (1u << below(r, 32)) - 1;
+    case 6: return below(r, 64);
+    case 7: return 0u - below(r, 64);
+    case 8: return edge_half(r) | edge_half(r) << 16;
+    case 9: return (uint32_t)(int32_t)(int16_t)edge_half(r);
+    default: return random_word(r);
+    }
+}
+
+/* ---- COP2 registers ---------------------------------------------------------- */
+
+static uint32_t extend(uint32_t half)
+{
+    return (uint32_t)(int32_t)(int16_t)half;
+}
+
+static bool sign_extended(unsigned i)
+{
+    return i == 1 || i == 3 || i == 5 || (i >= 8 && i <= 11) || i == 36 || i == 44 || i == 52 || i == 58 || i == 59 ||
+           i == 61 || i == 62;
+}
+
+static bool zero_extended(unsigned i)
+{
+    return i == 7 || (i >= 16 && i <= 19);
+}
+
+/* A five-bit field of 28 and 29. */
+static uint32_t field(uint32_t ir)
+{
+    int32_t value = (int16_t)ir;
+
+    return value < 0 ? 0 : value > 0xFFF ? 31 : (uint32_t)value / 128;
+}
+
+/* Makes any 64 words into ones that reads can return (01, The machine image). */
+static void make_cop2_well_formed(uint32_t *r)
+{
+    uint32_t sign, count = 0, i;
+
+    for (i = 0; i < 64; i++) {
+        if (sign_extended(i))
+            r[i] = extend(r[i]);
+        if (zero_extended(i))
+            r[i] &= 0xFFFF;
+    }
+    r[15] = r[14];
+    r[28] = r[29] = field(r[9]) | field(r[10]) << 5 | field(r[11]) << 10;
+    sign = r[30] >> 31;
+    for (i = 32; i-- > 0 && (r[30] >> i & 1) == sign;)
+        count++;
+    r[31] = count;
+    r[63] &= 0x7FFFF000;
+    for (i = 13; i < 31; i++)
+        if ((i < 19 || i > 22) && (r[63] >> i & 1))
+            r[63] |= 0x80000000;
+}
+
+/* A depth around a limit: 0, 7FFFh, FFFFh, -8000h, or anywhere. */
+static int32_t random_depth(struct random *r)
+{
+    switch (below(r, 8)) {
+    case 0: return (int32_t)below(r, 8);
+    case 1: return (int32_t)below(r, 0x400);
+    case 2: return 0x7FFC + (int32_t)below(r, 8);
+    case 3: return 0xFFFC + (int32_t)below(r, 8);
+    case 4: return -0x8000 - 4 + (int32_t)below(r, 8);
+    default: return (int32_t)below(r, 0x8000);
+    }
+}
+
+/*
+ * A camera along Z, with the depth, the quotient, the screen limits or the 32
+ * bits of MAC0 near their edges for the first vertex; the others are close to
+ * it or anywhere.
+ */
+static void projection_recipe(struct random *r, uint32_t *c)
+{
+    static const int64_t screen[] = {0x3FFFFFF, 0x4000000, -0x4000000, -0x4000001, 0x7FFFFFFF, 0x80000000,
+                                     -0x80000000LL, -0x80000001LL, 0, -1};
+    static const int64_t cue[] = {0, -1, 0xFFF, 0x1000FFF, 0x1001000, 0x7FFFFFFF, 0x80000000, -0x80000000LL, -0x80000001LL};
+    int32_t depth = random_depth(r), reach, z;
+    int64_t quotient, x, y;
+    uint32_t h, i;
+
+    for (i = 32; i < 37; i++)
+        c[i] = 0;
+    c[32] = c[34] = c[36] = 0x1000;
+    if (chance(r, 30))
+        c[32 + below(r, 4)] ^= edge_half(r) << 16;
+    for (i = 37; i < 39; i++)
+        c[i] = chance(r, 60) ? 0 : (uint32_t)((int32_t)below(r, 4001) - 2000);
+    /* TRZ brings the depth within reach of VZ, which has 16 bits. */
+    reach = depth > 0x7F00 ? depth - 0x7F00 : depth < -0x7F00 ? depth + 0x7F00 : chance(r, 70) ? 0 : (int32_t)below(r, 200);
+    c[39] = (uint32_t)reach;
+    for (i = 1; i < 6; i += 2) {
+        z = i == 1 || chance(r, 60) ? depth + (int32_t)below(r, 5) - 2 : random_depth(r);
+        c[i] = (uint32_t)(z - reach);
+    }
+    h = chance(r, 60) ? 2 * (uint32_t)depth + below(r, 7) - 3 : chance(r, 50) ? (uint32_t)depth : edge_half(r);
+    c[58] = h & 0xFFFF;
+    z = (int16_t)c[1] + reach;
+    z = z < 0 ? 0 : z > 0xFFFF ? 0xFFFF : z;
+    quotient = c[58] >= 2 * (uint32_t)z ? 0x1FFFF : (int64_t)((uint64_t)c[58] * 0x20000 / (uint32_t)z + 1) / 2;
+    for (i = 0; i < 6; i += 2) {
+        x = chance(r, 50) ? (int64_t)below(r, 9) - 4 : (int16_t)edge_half(r);
+        y = chance(r, 50) ? (int64_t)below(r, 9) - 4 : (int16_t)edge_half(r);
+        c[i] = ((uint32_t)x & 0xFFFF) | (uint32_t)y << 16;
+        if (i == 0) {
+            x += (int32_t)c[37];
+            y += (int32_t)c[38];
+            if (chance(r, 70))
+                c[56] = (uint32_t)(PICK(r, screen) - quotient * x + (int64_t)below(r, 3) - 1);
+            if (chance(r, 70))
+                c[57] = (uint32_t)(PICK(r, screen) - quotient * y + (int64_t)below(r, 3) - 1);
+        }
+    }
+    c[59] = chance(r, 50) ? below(r, 5) - 2 : edge_half(r);
+    if (chance(r, 70))
+        c[60] = (uint32_t)(PICK(r, cue) - quotient * (int16_t)c[59] + (int64_t)below(r, 3) - 1);
+}
+
+/* Sums at -2^43 and 2^43-1: a translation of 32 bits and one product, the rest zero. */
+static void wide_sum_recipe(struct random *r, uint32_t *c)
+{
+    static const int16_t positive[] = {4094, 4095, 4096, 4097}, negative[] = {1, 0, -1, -2};
+    static const unsigned matrices[] = {32, 40, 48}, translations[] = {37, 45, 53};
+    unsigned i, k;
+
+    for (i = 0; i < 3; i++)
+        for (k = 0; k < 5; k++)
+            c[matrices[i] + k] = 0;
+    for (i = 0; i < 3; i++) {
+        bool up = chance(r, 50);
+
+        for (k = 0; k < 3; k++)
+            c[translations[i] + k] = up ? 0x7FFFFFFF - below(r, 2) : 0x80000000 + below(r, 2);
+        /* the last column, which MVMVA with FC keeps, and the first */
+        c[matrices[i] + 1] = 1;
+        c[matrices[i] + 2] = 0x10000;
+        c[matrices[i] + 4] = 1;
+        if (chance(r, 30))
+            c[matrices[i]] = 1;
+        c[2 * i + 1] = (uint32_t)(int32_t)(up ? PICK(r, positive) : PICK(r, negative));
+        c[2 * i] = 0;
+    }
+    for (i = 9; i < 12; i++) {
+        c[i] = (uint32_t)(int32_t)(chance(r, 50) ? PICK(r, positive) : PICK(r, negative));
+        c[i + 16] = chance(r, 50) ? 0x7FFFFFFF - below(r, 2) : 0x80000000 + below(r, 2);
+    }
+    c[8] = chance(r, 50) ? 1 : chance(r, 50) ? 0xFFFF : 0x1000;
+}
+
+/* Colours around 0, FFh and the far colour. */
+static void colour_recipe(struct random *r, uint32_t *c)
+{
+    unsigned i;
+
+    for (i = 9; i < 12; i++)
+        c[i] = chance(r, 70) ? below(r, 0x1100) : edge_half(r);
+    c[8] = chance(r, 70) ? below(r, 0x1001) : edge_half(r);
+    for (i = 25; i < 28; i++)
+        c[i] = chance(r, 50) ? 4094 + below(r, 4) : (uint32_t)((int32_t)below(r, 5) - 2);
+    for (i = 45; i < 48; i++) {
+        c[i] = below(r, 0x1100);
+        c[i + 8] = chance(r, 50) ? below(r, 0x1100) : edge_word(r);
+    }
+    for (i = 0; i < 5; i++) {
+        c[40 + i] = below(r, 0x1000) | below(r, 0x1000) << 16;
+        c[48 + i] = below(r, 0x1000) | below(r, 0x1000) << 16;
+    }
+    for (i = 0; i < 6; i++)
+        c[i] = below(r, 0x1000) | below(r, 0x1000) << 16;
+}
+
+/* Average Z with OTZ at FFFFh and MAC0 at 2^31; NCLIP of large corners. */
+static void depth_and_clip_recipe(struct random *r, uint32_t *c)
+{
+    static const uint16_t corners[] = {0, 1, 0xFFFF, 0x7FFF, 0x8000, 0x4000, 0xC000};
+    static const uint16_t depths[] = {0, 1, 2, 3, 0x5555, 0x5556, 0x7FFF, 0x8000, 0xFFFF};
+    static const uint16_t factors[] = {0, 1, 0xFFFF, 0x1000, 0x4000, 0x7FFF, 0x8000, 0xC000, 0x0555};
+    unsigned i;
+
+    for (i = 12; i < 15; i++)
+        c[i] = PICK(r, corners) | (uint32_t)PICK(r, corners) << 16;
+    if (chance(r, 40)) { /* twice the area is FFFFh * 8001h - (SX2 + 8000h): 2^31 for SX2 = -1 */
+        c[12] = 0x80008000;
+        c[13] = 0x80017FFF;
+        c[14] = 0x00010000 | ((below(r, 5) - 3) & 0xFFFF);
+        if (chance(r, 50)) {
+            c[12] = 0x80017FFF;
+            c[13] = 0x80008000;
+        }
+    }
+    for (i = 16; i < 20; i++)
+        c[i] = PICK(r, depths);
+    c[61] = PICK(r, factors);
+    c[62] = PICK(r, factors);
+}
+
+/* Answers a command that suits the recipe taken, or 12h if any does. */
+static uint32_t random_cop2(struct random *r, uint32_t *c)
+{
+    static const uint8_t projecting[] = {0x01, 0x30}, averaging[] = {0x06, 0x06, 0x2D, 0x2E};
+    uint32_t style = below(r, 10);
+    unsigned i;
+
+    for (i = 0; i < 64; i++)
+        c[i] = style == 0 ? random_word(r) : style == 1 && chance(r, 60) ? 0 : edge_word(r);
+    switch (style) {
+    case 2: case 3: projection_recipe(r, c); break;
+    case 4: case 5: wide_sum_recipe(r, c); break;
+    case 6: colour_recipe(r, c); break;
+    case 7: depth_and_clip_recipe(r, c); break;
+    default: break;
+    }
+    make_cop2_well_formed(c);
+    return style == 2 || style == 3 ? PICK(r, projecting) : style == 7 ? PICK(r, averaging) : 0x12;
+}
+
+/* ---- Instructions ------------------------------------------------------------ */
+
+/* Where a program lies and how often it may go wrong. */
+struct layout {
+    uint32_t code, code_end; /* physical */
+    uint32_t position; /* physical address of the instruction being made */
+    bool wild; /* any register anywhere: for short runs */
+};
+
+static const uint8_t listed_commands[] = {0x01, 0x06, 0x0C, 0x10, 0x11, 0x12, 0x13, 0x14, 0x16, 0x1B, 0x1C,
+                                          0x1E, 0x20, 0x28, 0x29, 0x2A, 0x2D, 0x2E, 0x30, 0x3D, 0x3E, 0x3F};
+
+static uint32_t source(struct random *r)
+{
+    return below(r, 32);
+}
+
+/* Programs keep pointers in 16..25, 27 and 28 and write elsewhere. */
+static uint32_t destination(struct random *r, const struct layout *l)
+{
+    if (l->wild || chance(r, 2))
+        return below(r, 32);
+    return chance(r, 4) ? 31 : below(r, 16);
+}
+
+static uint32_t base(struct random *r, const struct layout *l)
+{
+    return l->wild && chance(r, 30) ? below(r, 32) : 16 + below(r, 8);
+}
+
+static int32_t offset(struct random *r)
+{
+    switch (below(r, 8)) {
+    case 0: return (int32_t)below(r, 33) - 16;
+    case 1: return chance(r, 10) ? (int16_t)random_word(r) : 0;
+    default: return ((int32_t)below(r, 33) - 16) * 4;
+    }
+}
+
+static uint32_t random_command(struct random *r)
+{
+    uint32_t word = 0x4A000000 | (random_word(r) & 0x01FFFFC0);
+
+    return word | (chance(r, 25) ? 0x12u : PICK(r, listed_commands));
+}
+
+static uint32_t random_branch(struct random *r, const struct layout *l)
+{
+    static const uint8_t conditions[] = {0x00, 0x01, 0x10, 0x11};
+    uint32_t words = (l->code_end - l->code) / 4, here = (l->position - l->code) / 4;
+    uint32_t to = chance(r, 75) ? here + 2 + below(r, 12) : below(r, words);
+    int32_t distance = (int32_t)(to % words) - (int32_t)here - 1;
+    uint32_t rs = chance(r, 15) ? 0 : source(r), rt = chance(r, 30) ? rs : source(r);
+
+    if (l->wild && chance(r, 20))
+        distance = (int16_t)random_word(r);
+    switch (below(r, 5)) {
+    case 0: return encode_i(OP_BEQ, rt, rs, distance);
+    case 1: return encode_i(OP_BNE, rt, rs, distance);
+    case 2: return encode_i(OP_BLEZ, l->wild ? rt : 0, rs, distance);
+    case 3: return encode_i(OP_BGTZ, l->wild ? rt : 0, rs, distance);
+    default: return encode_i(OP_BCOND, PICK(r, conditions), rs, distance);
+    }
+}
+
+static uint32_t random_jump(struct random *r, const struct layout *l)
+{
+    uint32_t target = l->code + below(r, (l->code_end - l->code) / 4) * 4;
+    uint32_t holder = chance(r, 80) ? 24 + below(r, 2) : chance(r, 50) ? 31 : source(r);
+
+    if (l->wild && chance(r, 20))
+        target = random_word(r);
+    switch (below(r, 4)) {
+    case 0: return encode_j(OP_J, target);
+    case 1: return encode_j(OP_JAL, target);
+    case 2: return encode_r(F_JR, 0, holder, 0, 0);
+    default: return encode_r(F_JALR, chance(r, 70) ? 31 : destination(r, l), holder, 0, 0);
+    }
+}
+
+static uint32_t random_load_or_store(struct random *r, const struct layout *l)
+{
+    static const uint8_t loads[] = {OP_LB, OP_LH, OP_LWL, OP_LW, OP_LBU, OP_LHU, OP_LWR, OP_LWL, OP_LWR, OP_LW};
+    static const uint8_t stores[] = {OP_SB, OP_SH, OP_SWL, OP_SW, OP_SWR};
+
+    if (chance(r, 60))
+        return encode_i(PICK(r, loads), destination(r, l), base(r, l), offset(r));
+    return encode_i(PICK(r, stores), source(r), base(r, l), offset(r));
+}
+
+static uint32_t random_alu(struct random *r, const struct layout *l)
+{
+    static const uint8_t three[] = {F_ADD, F_ADDU, F_SUB, F_SUBU, F_AND, F_OR, F_XOR, F_NOR, F_SLT, F_SLTU,
+                                    F_SLL, F_SRL, F_SRA, F_SLLV, F_SRLV, F_SRAV};
+    static const uint8_t immediate[] = {OP_ADDI, OP_ADDIU, OP_SLTI, OP_SLTIU, OP_ANDI, OP_ORI, OP_XORI, OP_LUI};
+
+    if (chance(r, 60))
+        return encode_r(PICK(r, three), destination(r, l), source(r), source(r), below(r, 32));
+    return encode_i(PICK(r, immediate), destination(r, l), source(r), (int32_t)edge_half(r));
+}
+
+static uint32_t random_multiply_divide(struct random *r, const struct layout *l)
+{
+    static const uint8_t functions[] = {F_MULT, F_MULTU, F_DIV, F_DIVU, F_MFHI, F_MFLO, F_MTHI, F_MTLO};
+
+    return encode_r(PICK(r, functions), destination(r, l), source(r), source(r), l->wild ? below(r, 32) : 0);
+}
+
+static uint32_t random_cop2_access(struct random *r, const struct layout *l)
+{
+    static const uint8_t often[] = {15, 28, 29, 30, 31, 7, 9, 14};
+    uint32_t number = chance(r, 25) ? PICK(r, often) : below(r, 32);
+
+    switch (below(r, 6)) {
+    case 0: return encode_move(2, 0, destination(r, l), number) | (l->wild ? below(r, 0x800) : 0);
+    case 1: return encode_move(2, 2, destination(r, l), chance(r, 20) ? 31 : below(r, 32));
+    case 2: return encode_move(2, 4, source(r), number);
+    case 3: return encode_move(2, 6, source(r), chance(r, 20) ? 31 : below(r, 32));
+    case 4: return encode_i(OP_LWC2, number, base(r, l), offset(r));
+    default: return encode_i(OP_SWC2, number, base(r, l), offset(r));
+    }
+}
+
+static uint32_t random_cop0_access(struct random *r, const struct layout *l)
+{
+    static const uint8_t registers[] = {8, 12, 13, 14, 12, 13};
+    uint32_t number = chance(r, 70) ? PICK(r, registers) : below(r, 32);
+
+    switch (below(r, 3)) {
+    case 0: return encode_move(0, 0, destination(r, l), number) | (l->wild ? below(r, 0x800) : 0);
+    case 1:
+        /* SR from register 28, which holds a usable one, or the run soon loses COP2 */
+        if (!l->wild && number == 12 && chance(r, 80))
+            return encode_move(0, 4, 28, 12);
+        return encode_move(0, 4, source(r), number);
+    default: return RFE | (l->wild ? random_word(r) & 0x01FFFFC0 : 0);
+    }
+}
+
+/* Reserved words, COP1 and COP3, and unlisted GTE commands. */
+static uint32_t random_illegal(struct random *r, const struct layout *l)
+{
+    static const uint8_t opcodes[] = {0x14, 0x1F, 0x27, 0x2C, 0x2D, 0x2F, 0x30, 0x34, 0x37, 0x38, 0x3C, 0x3F};
+    static const uint8_t coprocessors[] = {0x11, 0x13, 0x31, 0x33, 0x39, 0x3B};
+    static const uint8_t functions[] = {0x10, 0x30, 0x30, 0x11, 0x00, 0x08};
+    uint32_t rest = random_word(r) & 0x03FFFFFF;
+
+    switch (below(r, 8)) {
+    case 0: return (uint32_t)PICK(r, opcodes) << 26 | rest;
+    case 1: return (uint32_t)PICK(r, coprocessors) << 26 | rest;
+    case 2: return rest; /* SPECIAL, any function */
+    case 3: return 0x04000000 | rest; /* BCOND, any rt */
+    case 4: /* COP0, any form; functions around that of RFE */
+        return 0x40000000 | (rest & 0x03FFFFC0) | (chance(r, 50) ? below(r, 64) : PICK(r, functions));
+    case 5: return 0x48000000 | (rest & 0x01FFFFFF); /* COP2, any form that is no command */
+    case 6:
+        if (l->wild || chance(r, 5))
+            return 0x4A000000 | rest; /* any command */
+        return (uint32_t)PICK(r, coprocessors) << 26 | rest;
+    default: return random_word(r) & ~(l->wild ? 0u : 0x0A000000u);
+    }
+}
+
+static uint32_t random_instruction(struct random *r, const struct layout *l)
+{
+    uint32_t choice = below(r, 100);
+
+    if (choice < 10)
+        return random_command(r);
+    if (choice < 22)
+        return random_cop2_access(r, l);
+    if (choice < 25)
+        return random_cop0_access(r, l);
+    if (choice < 46)
+        return random_load_or_store(r, l);
+    if (choice < 74)
+        return random_alu(r, l);
+    if (choice < 82)
+        return random_multiply_divide(r, l);
+    if (choice < 91)
+        return random_branch(r, l);
+    if (choice < 95)
+        return random_jump(r, l);
+    if (choice < 97)
+        return encode_r(chance(r, 50) ? F_SYSCALL : F_BREAK, below(r, 32), below(r, 32), below(r, 32), below(r, 32));
+    return random_illegal(r, l);
+}
+
+/* ---- Images -------------------------------------------------------------------- */
+
+enum { PC = 34, NEXT, WAIT, WAITING, SLOT, SR, CAUSE, EPC, BADV, COP2 = 44 };
+
+#define SR_MASK 0xF24FFF3Fu
+#define CAUSE_MASK 0xB000037Cu
+
+static void put_word(uint8_t *p, uint32_t w)
+{
+    p[0] = (uint8_t)w;
+    p[1] = (uint8_t)(w >> 8);
+    p[2] = (uint8_t)(w >> 16);
+    p[3] = (uint8_t)(w >> 24);
+}
+
+static uint32_t get_word(const uint8_t *p)
+{
+    return (uint32_t)p[0] | (uint32_t)p[1] << 8 | (uint32_t)p[2] << 16 | (uint32_t)p[3] << 24;
+}
+
+static void put_image(struct test_case *c, const uint32_t *word)
+{
+    unsigned i;
+
+    for (i = 0; i < 108; i++)
+        put_word(c->image + 4 * i, word[i]);
+    c->image_length = 432;
+}
+
+static uint32_t random_sr(struct random *r)
+{
+    uint32_t sr = random_word(r) & SR_MASK & ~0x42u;
+
+    if (chance(r, 85))
+        sr |= 0x40000000; /* CU2 */
+    else
+        sr &= ~0x40000000u;
+    if (chance(r, 25))
+        sr |= 2; /* user mode */
+    if (chance(r, 75))
+        sr &= ~0x00400000u; /* BEV */
+    return sr & SR_MASK;
+}
+
+/* The segments that reach RAM; user mode reaches only the first. */
+static uint32_t segment(struct random *r, uint32_t sr)
+{
+    static const uint32_t segments[] = {0, 0x80000000, 0xA0000000};
+
+    if ((sr & 2) && chance(r, 85))
+        return 0;
+    return PICK(r, segments);
+}
+
+/* An address for a load or store: in RAM, at its end, misaligned, or nowhere. */
+static uint32_t data_address(struct random *r, uint32_t sr, uint32_t low, uint32_t high)
+{
+    uint32_t address = low + below(r, high - low);
+
+    if (chance(r, 80))
+        address &= ~3u;
+    switch (below(r, 24)) {
+    case 0: return random_word(r);
+    case 1: return high - 2 + below(r, 5);
+    case 2: return 0x1FFFFFF8 + below(r, 16);
+    case 3: return address | 0x20000000u * below(r, 8);
+    default: return address | segment(r, sr);
+    }
+}
+
+static void random_general(struct random *r, uint32_t *word)
+{
+    unsigned i;
+
+    word[0] = 0;
+    for (i = 1; i < 34; i++)
+        word[i] = edge_word(r);
+}
+
+static void random_cop0(struct random *r, uint32_t *word)
+{
+    word[SR] = random_sr(r);
+    word[CAUSE] = edge_word(r) & CAUSE_MASK;
+    if (chance(r, 50))
+        word[CAUSE] |= random_word(r) & CAUSE_MASK;
+    word[EPC] = edge_word(r);
+    word[BADV] = edge_word(r);
+    word[43] = 0;
+}
+
+/* Often a register that the instruction names, so that dropping, landing and merging are met. */
+static void random_waiting(struct random *r, uint32_t *word, uint32_t instruction)
+{
+    const uint32_t fields[] = {instruction >> 21 & 31, instruction >> 16 & 31, instruction >> 11 & 31, 31};
+
+    word[WAIT] = chance(r, 30) ? 0 : chance(r, 80) ? PICK(r, fields) : below(r, 32);
+    word[WAITING] = word[WAIT] == 0 ? 0 : edge_word(r);
+}
+
+/* Operands of arithmetic and branches at the ends of their range, both at once. */
+static void operands_at_edges(struct random *r, uint32_t *word, uint32_t instruction)
+{
+    static const uint32_t ends[] = {0, 1, 0xFFFFFFFF, 0x7FFFFFFF, 0x80000000};
+
+    uint32_t rs = instruction >> 21 & 31, rt = instruction >> 16 & 31;
+
+    if (instruction >> 26 < 0x10 && chance(r, 40)) {
+        word[rs] = PICK(r, ends);
+        word[rt] = PICK(r, ends);
+        if (chance(r, 20)) { /* the quotient that 32 bits cannot hold */
+            word[rs] = 0x80000000;
+            word[rt] = 0xFFFFFFFF;
+        }
+        word[0] = 0;
+    }
+}
+
+/* ---- Kinds of cases -------------------------------------------------------------- */
+
+static void step_case(struct random *r, struct test_case *c)
+{
+    static const uint32_t lengths[] = {4, 8, 12, 16, 64, 64, 256, 256, 256, 1024, 260};
+    struct layout l = {0, 0, 0, true};
+    uint32_t word[108], i;
+
+    c->kind = "a few steps from a random state";
+    c->ram_length = PICK(r, lengths);
+    l.code_end = (uint32_t)c->ram_length;
+    random_general(r, word);
+    random_cop0(r, word);
+    random_cop2(r, word + COP2);
+    for (i = 16; i < 26; i++)
+        if (chance(r, 85))
+            word[i] = data_address(r, word[SR], 0, (uint32_t)c->ram_length);
+    for (i = 0; i < c->ram_length; i += 4) {
+        l.position = i;
+        put_word(c->ram + i, chance(r, 70) ? random_instruction(r, &l) : edge_word(r));
+    }
+    l.position = below(r, (uint32_t)c->ram_length / 4) * 4;
+    put_word(c->ram + l.position, random_instruction(r, &l));
+    operands_at_edges(r, word, get_word(c->ram + l.position));
+    word[PC] = l.position | segment(r, word[SR]);
+    if (chance(r, 4))
+        word[PC] = edge_word(r);
+    word[NEXT] = chance(r, 70) ? word[PC] + 4 : chance(r, 60) ? word[PC] + 4 * below(r, 16) : edge_word(r);
+    word[SLOT] = chance(r, 30);
+    random_waiting(r, word, get_word(c->ram + l.position));
+    put_image(c, word);
+    c->count = chance(r, 70) ? 1 : below(r, 12);
+}
+
+static void command_case(struct random *r, struct test_case *c)
+{
+    uint32_t word[108], suited, i;
+
+    c->kind = "GTE commands";
+    c->ram_length = 64;
+    random_general(r, word);
+    random_cop0(r, word);
+    suited = random_cop2(r, word + COP2);
+    word[SR] |= 0x40000000;
+    for (i = 0; i < 64; i += 4)
+        put_word(c->ram + i, chance(r, 3) ? 0x4A000000 | (random_word(r) & 0x01FFFFFF) : random_command(r));
+    if (suited != 0x12 && chance(r, 60))
+        put_word(c->ram, 0x4A000000 | (random_word(r) & 0x01FFFFC0) | suited);
+    word[PC] = 0;
+    word[NEXT] = 4;
+    word[SLOT] = 0;
+    random_waiting(r, word, 0);
+    put_image(c, word);
+    c->count = 1 + (chance(r, 30) ? below(r, 8) : 0);
+}
+
+/* The code at the exception vector: most kinds bring the run back into the program. */
+static void put_handler(struct random *r, struct test_case *c, const struct layout *l)
+{
+    uint32_t at = 0x80, i;
+    uint32_t code[6] = {0};
+
+    switch (below(r, 4)) {
+    case 0: /* return past the instruction */
+        code[0] = encode_move(0, 0, 26, 14);
+        code[2] = encode_i(OP_ADDIU, 26, 26, 4);
+        code[3] = encode_r(F_JR, 0, 26, 0, 0);
+        code[4] = RFE;
+        break;
+    case 1: /* a usable SR, and on from a fixed place */
+        code[0] = encode_move(0, 4, 28, 12);
+        code[1] = encode_j(OP_J, l->code + below(r, (l->code_end - l->code) / 4) * 4);
+        code[2] = encode_i(OP_ADDIU, 1, 1, 1);
+        break;
+    case 2: /* on from an address near EPC that lies in RAM */
+        code[0] = encode_move(0, 0, 26, 14);
+        code[1] = encode_move(0, 4, 28, 12);
+        code[2] = encode_i(OP_ANDI, 26, 26, 0x1FC);
+        code[3] = encode_i(OP_ADDIU, 26, 26, 8);
+        code[4] = encode_r(F_JR, 0, 26, 0, 0);
+        break;
+    default: return;
+    }
+    for (i = 0; i < 6; i++)
+        put_word(c->ram + at + 4 * i, code[i]);
+}
+
+static void program_case(struct random *r, struct test_case *c, uint32_t ram_length, uint32_t code_bytes)
+{
+    struct layout l = {0xC0, 0, 0, false};
+    uint32_t word[108], i;
+
+    c->kind = "a program";
+    c->ram_length = ram_length;
+    l.code_end = l.code + code_bytes;
+    memset(c->ram, 0, ram_length);
+    for (i = 0; i < l.code_end; i += 4) {
+        l.position = i < l.code ? l.code : i;
+        put_word(c->ram + i, random_instruction(r, &l));
+    }
+    for (; i < ram_length && i < l.code_end + 4096; i += 4)
+        put_word(c->ram + i, edge_word(r));
+    random_general(r, word);
+    random_cop0(r, word);
+    random_cop2(r, word + COP2);
+    word[SR] |= 0x40000000;
+    if (chance(r, 80))
+        word[SR] &= ~0x00400000u;
+    word[28] = word[SR];
+    for (i = 16; i < 24; i++)
+        word[i] = data_address(r, word[SR], l.code_end, ram_length);
+    for (i = 24; i < 26; i++)
+        word[i] = (l.code + below(r, code_bytes / 4) * 4) | ((word[SR] & 2) ? 0 : segment(r, word[SR]));
+    put_handler(r, c, &l);
+    word[PC] = l.code | ((word[SR] & 2) ? 0 : segment(r, word[SR]));
+    word[NEXT] = word[PC] + 4;
+    word[SLOT] = 0;
+    random_waiting(r, word, 0);
+    put_image(c, word);
+}
+
+static void small_program_case(struct random *r, struct test_case *c)
+{
+    uint32_t code_bytes = 64 + below(r, 256) * 4;
+
+    program_case(r, c, 0xC0 + code_bytes + 64 + below(r, 128) * 4, code_bytes);
+    c->count = chance(r, 20) ? below(r, 3000) : 50 + below(r, 500);
+}
+
+/* Runs of the greatest count, and RAM of the greatest length. */
+static void large_case(struct random *r, struct test_case *c)
+{
+    static const uint32_t lengths[] = {2097152, 2097148, 1048576, 1500000, 65536, 2048};
+
+    program_case(r, c, PICK(r, lengths), 64 + below(r, 256) * 4);
+    c->kind = "a large run";
+    c->count = chance(r, 30) ? 1000000 : below(r, 100000);
+}
+
+static uint64_t bad_count(struct random *r)
+{
+    static const uint64_t counts[] = {1000001, 1000002, 1048575, 1048576, 2097152, 5242880, 0xFFFFFFFF, 0x100000000,
+                                      0x100000001, 0x100000005, 0x1000F4240, 0x7FFFFFFFFFFFFFFF, 0x8000000000000000,
+                                      0x8000000000000001, UINT64_MAX - 1, UINT64_MAX};
+
+    return chance(r, 80) ? PICK(r, counts) : 1000001 + (next(r) >> below(r, 40));
+}
+
+static size_t bad_ram_length(struct random *r)
+{
+    static const uint32_t small[] = {0, 0, 1, 2, 3, 5, 6, 7, 9, 10, 11, 253, 254, 255};
+    static const uint32_t large[] = {2097149, 2097150, 2097151, 2097153, 2097154, 2097155, 2097156, 2097160, 4194304};
+
+    if (chance(r, 5))
+        return PICK(r, large);
+    return chance(r, 70) ? PICK(r, small) : below(r, 1000) * 4 + 1 + below(r, 3);
+}
+
+/* Spoils one word that 01 binds; the bit is one whose flip cannot give a well-formed image. */
+static void spoil(struct random *r, uint32_t *word)
+{
+    uint32_t bit = below(r, 32), number;
+
+    switch (below(r, 12)) {
+    case 0: word[0] ^= 1u << bit; break;
+    case 1: word[WAIT] |= 1u << (5 + below(r, 27)); break;
+    case 2: word[WAIT] = 0; word[WAITING] = edge_word(r) | 1u << bit; break;
+    case 3: word[SLOT] |= 1u << (1 + below(r, 31)); break;
+    case 4: word[43] ^= 1u << bit; break;
+    case 5:
+        do
+            bit = below(r, 32);
+        while (SR_MASK >> bit & 1);
+        word[SR] |= 1u << bit;
+        break;
+    case 6:
+        do
+            bit = below(r, 32);
+        while (CAUSE_MASK >> bit & 1);
+        word[CAUSE] |= 1u << bit;
+        break;
+    case 7: case 8: /* an upper half that no read returns */
+        do
+            number = below(r, 64);
+        while (!sign_extended(number) && !zero_extended(number));
+        word[COP2 + number] ^= 1u << (16 + below(r, 16));
+        break;
+    case 9: /* SXY2 against SXYP */
+        word[COP2 + 14 + below(r, 2)] ^= 1u << bit;
+        break;
+    case 10: /* IRGB, ORGB, LZCR against what they are worked out from */
+        number = below(r, 3);
+        word[COP2 + (number == 2 ? 31 : 28 + number)] ^= 1u << bit;
+        break;
+    default: /* FLAG: bits 11..0, or a wrong bit 31 */
+        word[COP2 + 63] ^= chance(r, 50) ? 0x80000000 : 1u << below(r, 12);
+        break;
+    }
+}
+
+static void refused_case(struct random *r, struct test_case *c)
+{
+    static const size_t lengths[] = {0, 0, 1, 4, 428, 431, 433, 436, 448, 452, 863, 864, 4096};
+    uint32_t word[108], choice = below(r, 20), i;
+
+    step_case(r, c);
+    c->kind = "a refusal";
+    for (i = 0; i < 108; i++)
+        word[i] = get_word(c->image + 4 * i);
+    memset(c->image + 432, 0x5A, CASE_IMAGE_CAPACITY - 432);
+    c->expected = EXPECT_RUN;
+    /* From the last test to the first, so that an earlier one has the word. */
+    if (choice < 4 || chance(r, 25)) {
+        c->count = bad_count(r);
+        c->expected = EXPECT_4;
+    } else if (chance(r, 30)) {
+        c->count = 0;
+    }
+    if ((choice >= 4 && choice < 8) || (choice > 8 && chance(r, 25))) {
+        c->ram_length = bad_ram_length(r);
+        memset(c->ram, 0xA5, c->ram_length);
+        c->expected = EXPECT_3;
+    }
+    if ((choice >= 8 && choice < 14) || (choice >= 15 && chance(r, 25))) {
+        spoil(r, word);
+        c->expected = EXPECT_2;
+    } else if (choice == 14) { /* any bit of any word, whatever that gives */
+        word[below(r, 108)] ^= 1u << below(r, 32);
+        c->expected = EXPECT_ANY;
+    }
+    put_image(c, word);
+    if (choice >= 15) {
+        c->image_length = PICK(r, lengths);
+        c->expected = EXPECT_1;
+    }
+}
+
+void generate_case(struct test_case *c, uint64_t seed, uint64_t number)
+{
+    struct random random, *r = &random;
+    uint32_t choice;
+
+    seed_random(r, seed, number);
+    c->expected = EXPECT_RUN;
+    choice = below(r, 10000);
+    if (choice < 4000)
+        step_case(r, c);
+    else if (choice < 6200)
+        command_case(r, c);
+    else if (choice < 8800)
+        small_program_case(r, c);
+    else if (choice < 9990)
+        refused_case(r, c);
+    else
+        large_case(r, c);
+    c->placement = next(r);
+}

@@ -1,0 +1,34 @@
+/* Random test cases, each made from a seed and a case number alone. */
+#ifndef GENERATE_H
+#define GENERATE_H
+
+#include <stddef.h>
+#include <stdint.h>
+
+#define CASE_IMAGE_CAPACITY 4096
+#define CASE_RAM_CAPACITY 4194304
+
+/* What the generator meant the run to answer; it is checked against the model. */
+enum expectation {
+    EXPECT_RUN = 0, /* code 0 or 5 */
+    EXPECT_1 = 1,
+    EXPECT_2 = 2,
+    EXPECT_3 = 3,
+    EXPECT_4 = 4,
+    EXPECT_ANY = -1
+};
+
+struct test_case {
+    const char *kind;
+    uint8_t *image; /* room for CASE_IMAGE_CAPACITY bytes */
+    size_t image_length;
+    uint8_t *ram; /* room for CASE_RAM_CAPACITY bytes */
+    size_t ram_length;
+    uint64_t count;
+    enum expectation expected;
+    uint64_t placement; /* random bits for where the buffers lie and where a run is cut in two */
+};
+
+void generate_case(struct test_case *c, uint64_t seed, uint64_t number);
+
+#endif

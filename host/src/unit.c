@@ -1,0 +1,1796 @@
+/*
+ * Unit tests of the model and of the disassembler: the figures of 01, its
+ * rules one by one, and the points at which the obvious code is wrong.
+ */
+#include "disassemble.h"
+#include "encode.h"
+#include "model.h"
+
+#include <stdio.h>
+#include <string.h>
+
+static int passed, failed;
+
+static void equal(const char *what, uint64_t got, uint64_t expected)
+{
+    if (got == expected) {
+        passed++;
+        return;
+    }
+    failed++;
+    printf("%s: got %llx, expected %llx\n", what, (unsigned long long)got, (unsigned long long)expected);
+}
+
+static void equal_text(const char *got, const char *expected)
+{
+    if (strcmp(got, expected) == 0) {
+        passed++;
+        return;
+    }
+    failed++;
+    printf("got \"%s\", expected \"%s\"\n", got, expected);
+}
+
+/* ---- A machine under test ------------------------------------------------- */
+
+enum { HI = 32, LO, PC, NEXT, WAIT, WAITING, SLOT, SR, CAUSE, EPC, BADV, ZERO, COP2 };
+
+#define CU2 0x40000000u
+#define CODE_BASE 0x100
+
+static uint32_t word[MODEL_IMAGE_WORDS]; /* the image as words */
+static uint8_t ram[2097152 + 8];
+static size_t ram_length;
+static uint64_t answer;
+
+static uint32_t get_word(const uint8_t *p)
+{
+    return (uint32_t)p[0] | (uint32_t)p[1] << 8 | (uint32_t)p[2] << 16 | (uint32_t)p[3] << 24;
+}
+
+static void put_word(uint8_t *p, uint32_t w)
+{
+    p[0] = (uint8_t)w;
+    p[1] = (uint8_t)(w >> 8);
+    p[2] = (uint8_t)(w >> 16);
+    p[3] = (uint8_t)(w >> 24);
+}
+
+/* Kernel mode, COP2 usable, PC at 100h, everything else zero. LZCR of LZCS 0 is 32. */
+static void fresh(void)
+{
+    memset(word, 0, sizeof word);
+    memset(ram, 0, 4096);
+    ram_length = 4096;
+    word[PC] = CODE_BASE;
+    word[NEXT] = CODE_BASE + 4;
+    word[SR] = CU2;
+    word[COP2 + 31] = 32;
+}
+
+static uint64_t run_length(size_t image_length, uint64_t count)
+{
+    uint8_t image[512] = {0};
+    unsigned i;
+
+    for (i = 0; i < MODEL_IMAGE_WORDS; i++)
+        put_word(image + 4 * i, word[i]);
+    answer = model_run(image, image_length, ram, ram_length, count);
+    for (i = 0; i < MODEL_IMAGE_WORDS; i++)
+        word[i] = get_word(image + 4 * i);
+    return answer;
+}
+
+static uint64_t run(uint64_t count)
+{
+    return run_length(MODEL_IMAGE_BYTES, count);
+}
+
+/* Puts one instruction at PC and runs it. */
+static void step(uint32_t instruction)
+{
+    put_word(ram + (word[PC] & 0x1FFFFFFF), instruction);
+    equal("answer of one step", run(1), 1);
+}
+
+/* Sets a COP2 register by its write rule, the image staying well formed. */
+static void set(unsigned number, uint32_t value)
+{
+    struct model machine;
+    uint8_t image[MODEL_IMAGE_BYTES];
+    unsigned i;
+
+    for (i = 0; i < MODEL_IMAGE_WORDS; i++)
+        put_word(image + 4 * i, word[i]);
+    equal("image before set", model_load(&machine, image), true);
+    model_cop2_write(&machine, number, value);
+    model_store(&machine, image);
+    for (i = 0; i < MODEL_IMAGE_WORDS; i++)
+        word[i] = get_word(image + 4 * i);
+}
+
+static uint32_t cop2(unsigned number)
+{
+    return word[COP2 + number];
+}
+
+static uint32_t halves(int32_t low, int32_t high)
+{
+    return ((uint32_t)low & 0xFFFF) | (uint32_t)high << 16;
+}
+
+/* ---- 01, Figures from the bench -------------------------------------------- */
+
+static void projection(int32_t x, int32_t y, int32_t z)
+{
+    fresh();
+    set(32, 0x1000); /* RT11 */
+    set(34, 0x1000); /* RT22 */
+    set(36, 0x1000); /* RT33 */
+    set(56, 160 * 65536);
+    set(57, 120 * 65536);
+    set(58, 200);
+    set(0, halves(x, y));
+    set(1, (uint32_t)z);
+    step(encode_command(0x01, 1, 0));
+}
+
+static void figures(void)
+{
+    bool overflow;
+
+    projection(100, -50, 1000);
+    equal("RTPS 1000 SXY2", cop2(14), halves(179, 110));
+    equal("RTPS 1000 FLAG", cop2(63), 0);
+    equal("RTPS 1000 quotient", model_quotient(200, 1000, &overflow), 13107);
+    projection(100, -50, 100);
+    equal("RTPS 100 SXY2", cop2(14), halves(359, 20));
+    equal("RTPS 100 FLAG", cop2(63), 0x80020000);
+    equal("RTPS 100 quotient", model_quotient(200, 100, &overflow), 0x1FFFF);
+    equal("RTPS 100 overflow", overflow, true);
+    projection(100, -50, 101);
+    equal("RTPS 101 SXY2", cop2(14), halves(358, 20));
+    equal("RTPS 101 FLAG", cop2(63), 0);
+    equal("RTPS 101 quotient", model_quotient(200, 101, &overflow), 129774);
+    equal("RTPS 101 overflow", overflow, false);
+
+    fresh();
+    set(12, halves(0, 0));
+    set(13, halves(10, 0));
+    set(14, halves(0, 10));
+    step(encode_command(0x06, 0, 0));
+    equal("NCLIP MAC0", cop2(24), 100);
+    fresh();
+    set(12, halves(0, 0));
+    set(13, halves(0, 10));
+    set(14, halves(10, 0));
+    step(encode_command(0x06, 0, 0));
+    equal("NCLIP exchanged MAC0", cop2(24), (uint32_t)-100);
+
+    fresh();
+    set(61, 1365);
+    set(17, 300);
+    set(18, 300);
+    set(19, 300);
+    step(encode_command(0x2D, 0, 0));
+    equal("AVSZ3 OTZ", cop2(7), 299);
+
+    fresh();
+    set(9, 0x7FFF);
+    step(encode_command(0x28, 0, 0));
+    equal("SQR MAC1", cop2(25), 0x3FFF0001);
+    equal("SQR FLAG", cop2(63), 0x81000000);
+    fresh();
+    set(11, 0x7FFF);
+    step(encode_command(0x28, 0, 0));
+    equal("SQR IR3 FLAG", cop2(63), 0x00400000);
+
+    fresh();
+    set(30, 0);
+    equal("LZCR 0", cop2(31), 32);
+    set(30, 0xFFFFFFFF);
+    equal("LZCR FFFFFFFFh", cop2(31), 32);
+    set(30, 1);
+    equal("LZCR 1", cop2(31), 31);
+    set(30, 0x80000000);
+    equal("LZCR 80000000h", cop2(31), 1);
+
+    fresh();
+    set(63, 0xFFFFFFFF);
+    equal("FLAG written FFFFFFFFh", cop2(63), 0xFFFFF000);
+
+    fresh();
+    word[1] = 0x7FFFFFFF;
+    word[2] = 1;
+    step(encode_r(F_ADDU, 3, 1, 2, 0));
+    equal("ADDU", word[3], 0x80000000);
+    step(encode_r(F_ADD, 4, 1, 2, 0));
+    equal("ADD code", word[CAUSE], 12 << 2);
+    equal("ADD target", word[4], 0);
+    equal("ADD EPC", word[EPC], CODE_BASE + 4);
+
+    fresh(); /* zeros are SLL zero: a loop through memory would leave RAM, so jump to itself */
+    put_word(ram + CODE_BASE, encode_j(OP_J, CODE_BASE));
+    equal("count 1000000", run(1000000), 1000000);
+    equal("count 1000001", run(1000001), 4 * MODEL_CODE_UNIT);
+    ram_length = 4;
+    equal("RAM of 4", run(2), 2);
+    ram_length = 0;
+    equal("RAM of 0", run(1), 3 * MODEL_CODE_UNIT);
+    ram_length = 6;
+    equal("RAM of 6", run(1), 3 * MODEL_CODE_UNIT);
+    ram_length = 2097156;
+    equal("RAM of 2097156", run(1), 3 * MODEL_CODE_UNIT);
+    ram_length = 2097152;
+    equal("RAM of 2097152", run(1), 1);
+}
+
+/* ---- 01, The run and its numbers ------------------------------------------- */
+
+static void refusals(void)
+{
+    uint32_t before[MODEL_IMAGE_WORDS];
+    unsigned i, bit;
+
+    fresh();
+    ram_length = 6;
+    equal("length before form", run_length(431, 2000000), 1 * MODEL_CODE_UNIT);
+    equal("length 0", run_length(0, 0), 1 * MODEL_CODE_UNIT);
+    equal("length 433", run_length(433, 0), 1 * MODEL_CODE_UNIT);
+    equal("length 452", run_length(452, 0), 1 * MODEL_CODE_UNIT);
+    word[0] = 1;
+    equal("form before RAM", run(2000000), 2 * MODEL_CODE_UNIT);
+    word[0] = 0;
+    equal("RAM before count", run(2000000), 3 * MODEL_CODE_UNIT);
+    ram_length = 4;
+    equal("count", run(2000000), 4 * MODEL_CODE_UNIT);
+    equal("count past 32 bits", run(0x100000005), 4 * MODEL_CODE_UNIT);
+    equal("count 2^64 - 1", run(UINT64_MAX), 4 * MODEL_CODE_UNIT);
+    equal("count 0", run(0), 0);
+
+    /* From a well-formed image, the words whose every bit is bound. */
+    static const unsigned bound[] = {0, 37, 43, COP2 + 15, COP2 + 28, COP2 + 29, COP2 + 31};
+    for (i = 0; i < sizeof bound / sizeof *bound; i++)
+        for (bit = 0; bit < 32; bit++) {
+            fresh();
+            word[bound[i]] ^= 1u << bit;
+            memcpy(before, word, sizeof word);
+            equal("bound word", run(1), 2 * MODEL_CODE_UNIT);
+            equal("bound word unchanged", memcmp(before, word, sizeof word), 0);
+        }
+    for (bit = 0; bit < 32; bit++) {
+        fresh();
+        word[WAIT] = 1u << bit;
+        equal("word 36", run(0), bit < 5 ? 0 : 2 * MODEL_CODE_UNIT);
+        fresh();
+        word[SLOT] = 1u << bit;
+        equal("word 38", run(0), bit < 1 ? 0 : 2 * MODEL_CODE_UNIT);
+        fresh();
+        word[SR] = 1u << bit;
+        equal("word 39", run(0), 0xF24FFF3F >> bit & 1 ? 0 : 2 * MODEL_CODE_UNIT);
+        fresh();
+        word[CAUSE] = 1u << bit;
+        equal("word 40", run(0), 0xB000037C >> bit & 1 ? 0 : 2 * MODEL_CODE_UNIT);
+        fresh();
+        word[COP2 + 14] = 1u << bit; /* 15 does not follow */
+        equal("SXY2 alone", run(0), 2 * MODEL_CODE_UNIT);
+        fresh();
+        word[COP2 + 63] = 1u << bit;
+        equal("FLAG bit", run(0), 0x00781000 >> bit & 1 ? 0 : 2 * MODEL_CODE_UNIT);
+    }
+    static const unsigned sign_extended[] = {1, 3, 5, 8, 9, 10, 11, 36, 44, 52, 58, 59, 61, 62};
+    for (i = 0; i < sizeof sign_extended / sizeof *sign_extended; i++) {
+        fresh();
+        word[COP2 + sign_extended[i]] = 0x8000;
+        equal("sign-extended register, 00008000h", run(0), 2 * MODEL_CODE_UNIT);
+        word[COP2 + sign_extended[i]] = 0xFFFF7FFF;
+        equal("sign-extended register, FFFF7FFFh", run(0), 2 * MODEL_CODE_UNIT);
+        word[COP2 + sign_extended[i]] = 0x10000;
+        equal("sign-extended register, 10000h", run(0), 2 * MODEL_CODE_UNIT);
+        word[COP2 + sign_extended[i]] = 0xFFFF8000;
+        equal("sign-extended register, FFFF8000h", run(0), 0);
+    }
+    static const unsigned zero_extended[] = {7, 16, 17, 18, 19};
+    for (i = 0; i < sizeof zero_extended / sizeof *zero_extended; i++) {
+        fresh();
+        word[COP2 + zero_extended[i]] = 0xFFFF8000;
+        equal("zero-extended register, FFFF8000h", run(0), 2 * MODEL_CODE_UNIT);
+        word[COP2 + zero_extended[i]] = 0xFFFF;
+        equal("zero-extended register, FFFFh", run(0), 0);
+    }
+    static const unsigned plain[] = {0, 2, 4, 6, 12, 13, 20, 21, 22, 23, 24, 25, 26, 27, 32, 33, 34, 35, 37, 38, 39,
+                                     40, 41, 42, 43, 45, 46, 47, 48, 49, 50, 51, 53, 54, 55, 56, 57, 60};
+    for (i = 0; i < sizeof plain / sizeof *plain; i++) {
+        fresh();
+        word[COP2 + plain[i]] = 0xDEADBEEF;
+        equal("plain register", run(0), 0);
+    }
+    fresh();
+    word[COP2 + 9] = 0x80; /* 28 and 29 do not follow */
+    equal("IR1 without IRGB", run(0), 2 * MODEL_CODE_UNIT);
+    word[COP2 + 28] = 1;
+    equal("IR1 without ORGB", run(0), 2 * MODEL_CODE_UNIT);
+    word[COP2 + 29] = 1;
+    equal("IR1 with both", run(0), 0);
+    fresh();
+    word[COP2 + 31] = 0; /* an image of zeros is not well formed */
+    equal("LZCR of zeros", run(0), 2 * MODEL_CODE_UNIT);
+    fresh();
+    word[PC] = 1;
+    word[NEXT] = 0xFFFFFFFF;
+    word[EPC] = word[BADV] = word[HI] = word[LO] = 0xFFFFFFFF;
+    equal("free words", run(0), 0);
+    word[WAIT] = 5;
+    word[WAITING] = 0;
+    equal("waiting 0 for register 5", run(0), 0);
+}
+
+static void unlisted_commands(void)
+{
+    uint32_t before[MODEL_IMAGE_WORDS];
+    static const uint8_t listed[] = {0x01, 0x06, 0x0C, 0x10, 0x11, 0x12, 0x13, 0x14, 0x16, 0x1B, 0x1C,
+                                     0x1E, 0x20, 0x28, 0x29, 0x2A, 0x2D, 0x2E, 0x30, 0x3D, 0x3E, 0x3F};
+    unsigned number, i;
+
+    for (number = 0; number < 64; number++) {
+        bool is_listed = false;
+
+        for (i = 0; i < sizeof listed; i++)
+            is_listed |= listed[i] == number;
+        fresh();
+        set(63, 0x1000);
+        put_word(ram + CODE_BASE, encode_command(number, 0, 0));
+        memcpy(before, word, sizeof word);
+        equal("command listed", run(1), is_listed ? 1 : 5 * MODEL_CODE_UNIT);
+        if (!is_listed)
+            equal("state before it", memcmp(before, word, sizeof word), 0);
+    }
+
+    fresh(); /* the waiting load still waits, and word 38 stays */
+    word[WAIT] = 4;
+    word[WAITING] = 9;
+    word[SLOT] = 1;
+    word[PC] = 0;
+    word[NEXT] = 4;
+    put_word(ram, 0x4A000000);
+    memcpy(before, word, sizeof word);
+    equal("unlisted answer", run(7), 5 * MODEL_CODE_UNIT);
+    equal("unlisted leaves all", memcmp(before, word, sizeof word), 0);
+    equal("unlisted, count 0", run(0), 0);
+    word[SR] = 0;
+    equal("unlisted, CU2 clear", run(1), 1);
+    equal("unlisted, waiting load lands", word[4], 9);
+    equal("unlisted, CAUSE", word[CAUSE], 0xA000002C);
+    equal("unlisted, EPC", word[EPC], 0xFFFFFFFC);
+
+    fresh(); /* a step, then the unlisted command */
+    put_word(ram + CODE_BASE, encode_i(OP_ADDIU, 1, 0, 7));
+    put_word(ram + CODE_BASE + 4, 0x4BFFFFC0);
+    equal("steps remain", run(2), 5 * MODEL_CODE_UNIT + 1);
+    equal("first step done", word[1], 7);
+    word[PC] = CODE_BASE;
+    word[NEXT] = CODE_BASE + 4;
+    equal("no steps remain", run(1), 1);
+
+    fresh(); /* the fake number in bits 24..20 is ignored */
+    set(9, 0x7FFF);
+    step(0x4BE00028);
+    equal("fake number", cop2(25), 0x3FFF0001);
+}
+
+/* ---- Load delay -------------------------------------------------------------- */
+
+static void waiting(uint32_t number, uint32_t value)
+{
+    word[WAIT] = number;
+    word[WAITING] = value;
+}
+
+static void none_waiting(const char *what)
+{
+    equal(what, (uint64_t)word[WAIT] << 32 | word[WAITING], 0);
+}
+
+static void load_delay(void)
+{
+    fresh(); /* T-01: an instruction that traps drops nothing */
+    word[2] = 0x7FFFFFFF;
+    word[3] = 1;
+    waiting(1, 0x55);
+    step(encode_r(F_ADD, 1, 2, 3, 0));
+    equal("T-01 r1", word[1], 0x55);
+    equal("T-01 CAUSE", word[CAUSE], 0x30);
+    none_waiting("T-01 waiting");
+    fresh();
+    waiting(1, 0x55);
+    step(encode_i(OP_LW, 1, 0, 2));
+    equal("T-01 LW r1", word[1], 0x55);
+    equal("T-01 LW BADV", word[BADV], 2);
+    none_waiting("T-01 LW waiting");
+
+    fresh(); /* T-02 */
+    word[1] = 7;
+    word[2] = 2;
+    waiting(1, 0x55);
+    step(encode_r(F_ADDU, 1, 1, 2, 0));
+    equal("T-02 r1", word[1], 9);
+    none_waiting("T-02 waiting");
+
+    fresh(); /* T-03 */
+    word[1] = 3;
+    put_word(ram + 0x20, 0x12345678);
+    waiting(1, 0x55);
+    step(encode_i(OP_LW, 1, 0, 0x20));
+    equal("T-03 r1", word[1], 3);
+    equal("T-03 word 36", word[WAIT], 1);
+    equal("T-03 word 37", word[WAITING], 0x12345678);
+    step(0);
+    equal("T-03 lands", word[1], 0x12345678);
+    none_waiting("T-03 waiting");
+
+    fresh(); /* T-04 */
+    waiting(31, 0x1234);
+    step(encode_j(OP_JAL, 0x200));
+    equal("T-04 JAL", word[31], CODE_BASE + 8);
+    fresh();
+    word[31] = 0x300;
+    waiting(31, 0x1234);
+    step(encode_r(F_JR, 0, 31, 0, 0));
+    equal("T-04 JR next PC", word[NEXT], 0x300);
+    equal("T-04 JR r31", word[31], 0x1234);
+    fresh();
+    word[31] = 0x80000000;
+    waiting(31, 0x1234);
+    step(encode_i(OP_BCOND, 0x10, 31, 4));
+    equal("T-04 BLTZAL next PC", word[NEXT], CODE_BASE + 4 + 16);
+    equal("T-04 BLTZAL r31", word[31], CODE_BASE + 8);
+    fresh();
+    word[5] = 0x400;
+    step(encode_r(F_JALR, 5, 5, 0, 0));
+    equal("T-04 JALR next PC", word[NEXT], 0x400);
+    equal("T-04 JALR r5", word[5], CODE_BASE + 8);
+
+    fresh(); /* T-05 */
+    unsigned i;
+    for (i = 0; i < 8; i++)
+        ram[0x20 + i] = (uint8_t)(0x10 + i);
+    word[1] = 0xEEEEEEEE;
+    word[2] = 0x21;
+    step(encode_i(OP_LWR, 1, 2, 0));
+    equal("T-05 after LWR", word[WAITING], 0xEE131211);
+    step(encode_i(OP_LWL, 1, 2, 3));
+    equal("T-05 after LWL", word[WAITING], 0x14131211);
+    equal("T-05 r1", word[1], 0xEEEEEEEE);
+    step(0);
+    equal("T-05 later", word[1], 0x14131211);
+    fresh(); /* a value waiting from MFC0 merges too; the base is the register */
+    word[EPC] = 0xAABBCCDD;
+    step(encode_move(0, 0, 1, 14));
+    step(encode_i(OP_LWL, 1, 0, 0));
+    equal("T-05 MFC0 merge", word[WAITING], 0x00BBCCDD);
+
+    fresh(); /* T-06 */
+    put_word(ram + 0x20, 0x11);
+    put_word(ram + 0x30, 0x22);
+    word[1] = 0x20;
+    waiting(1, 0x30);
+    step(encode_i(OP_LWC2, 9, 1, 0));
+    equal("T-06 IR1", cop2(9), 0x11);
+    equal("T-06 r1", word[1], 0x30);
+    none_waiting("T-06 waiting");
+
+    fresh(); /* T-07 */
+    word[1] = 1;
+    waiting(1, 2);
+    step(encode_i(OP_SW, 1, 0, 0x20));
+    equal("T-07 SW", get_word(ram + 0x20), 1);
+    fresh();
+    word[1] = 1;
+    waiting(1, 2);
+    step(encode_move(2, 4, 1, 0));
+    equal("T-07 MTC2", cop2(0), 1);
+    equal("T-07 MTC2 r1", word[1], 2);
+    fresh();
+    word[1] = 1;
+    waiting(1, 2);
+    step(encode_r(F_MULT, 0, 1, 1, 0));
+    equal("T-07 MULT", word[LO], 1);
+    fresh();
+    word[1] = 0x40000001;
+    waiting(1, 2);
+    step(encode_move(0, 4, 1, 12));
+    equal("T-07 MTC0", word[SR], 0x40000001);
+
+    fresh(); /* T-08 */
+    word[1] = 5;
+    step(encode_move(0, 0, 1, 3));
+    equal("T-08 r1", word[1], 5);
+    equal("T-08 word 36", word[WAIT], 1);
+    equal("T-08 word 37", word[WAITING], 0);
+    step(0);
+    equal("T-08 r1 later", word[1], 0);
+
+    fresh(); /* T-09 */
+    put_word(ram + 0x20, 5);
+    waiting(3, 9);
+    step(encode_i(OP_LW, 0, 0, 0x20));
+    none_waiting("T-09 waiting");
+    equal("T-09 r3", word[3], 9);
+    equal("T-09 r0", word[0], 0);
+    fresh();
+    step(encode_i(OP_LW, 0, 0, 0x21));
+    equal("T-09 AdEL", word[CAUSE], 4 << 2);
+    fresh();
+    step(encode_i(OP_LW, 0, 0, 0x7FF0));
+    equal("T-09 DBE", word[CAUSE], 7 << 2);
+    fresh();
+    word[SR] = 0;
+    step(encode_move(2, 0, 0, 0));
+    equal("T-09 CpU", word[CAUSE], 0x20000000 | 11 << 2);
+    fresh();
+    step(encode_move(2, 2, 0, 31));
+    none_waiting("T-09 CFC2 r0");
+
+    fresh(); /* T-10 */
+    word[1] = 0x7FFFFFFF;
+    step(encode_i(OP_ADDI, 0, 1, 1));
+    equal("T-10 ADDI r0", word[CAUSE], 12 << 2);
+    fresh();
+    word[1] = 0x80000000;
+    word[2] = 1;
+    step(encode_r(F_SUB, 0, 1, 2, 0));
+    equal("T-10 SUB r0", word[CAUSE], 12 << 2);
+
+    fresh(); /* T-11 */
+    waiting(3, 9);
+    word[PC] = 0x102;
+    equal("T-11 answer", run(1), 1);
+    equal("T-11 AdEL r3", word[3], 9);
+    equal("T-11 AdEL", word[CAUSE], 4 << 2);
+    fresh();
+    waiting(3, 9);
+    word[PC] = 0x20000000;
+    equal("T-11 answer", run(1), 1);
+    equal("T-11 IBE r3", word[3], 9);
+    equal("T-11 IBE", word[CAUSE], 6 << 2);
+    none_waiting("T-11 waiting");
+
+    fresh(); /* a load is not visible at once */
+    put_word(ram + 0x20, 5);
+    put_word(ram + CODE_BASE, encode_i(OP_LW, 1, 0, 0x20));
+    put_word(ram + CODE_BASE + 4, encode_r(F_ADDU, 2, 1, 0, 0));
+    put_word(ram + CODE_BASE + 8, encode_r(F_ADDU, 3, 1, 0, 0));
+    run(3);
+    equal("load delay, next instruction", word[2], 0);
+    equal("load delay, the one after", word[3], 5);
+}
+
+/* ---- Arithmetic of the processor ------------------------------------------- */
+
+/* The result in r3 of an R-type instruction on r1 and r2. */
+static uint32_t operate(uint32_t funct, uint32_t r1, uint32_t r2)
+{
+    fresh();
+    word[1] = r1;
+    word[2] = r2;
+    step(encode_r(funct, 3, 1, 2, 0));
+    return word[3];
+}
+
+static uint32_t operate_shift(uint32_t funct, uint32_t r2, uint32_t shift)
+{
+    fresh();
+    word[2] = r2;
+    step(encode_r(funct, 3, 0, 2, shift));
+    return word[3];
+}
+
+static uint32_t operate_immediate(uint32_t opcode, uint32_t r1, int32_t immediate)
+{
+    fresh();
+    word[1] = r1;
+    step(encode_i(opcode, 3, 1, immediate));
+    return word[3];
+}
+
+/* HI and LO after a multiplication or division. */
+static uint64_t hi_lo(uint32_t funct, uint32_t r1, uint32_t r2)
+{
+    operate(funct, r1, r2);
+    return (uint64_t)word[HI] << 32 | word[LO];
+}
+
+static void arithmetic(void)
+{
+    equal("SLL", operate_shift(F_SLL, 0x80000001, 31), 0x80000000);
+    equal("SRL", operate_shift(F_SRL, 0x80000001, 31), 1);
+    equal("SRA", operate_shift(F_SRA, 0x80000001, 31), 0xFFFFFFFF);
+    equal("SRA 0", operate_shift(F_SRA, 0x80000001, 0), 0x80000001);
+    equal("SLLV", operate(F_SLLV, 0xFFFFFFE1, 3), 6);
+    equal("SRLV", operate(F_SRLV, 32, 0x80000000), 0x80000000);
+    equal("SRAV", operate(F_SRAV, 0x24, 0x80000000), 0xF8000000);
+    equal("ADD", operate(F_ADD, 0x7FFFFFFF, 0x80000000), 0xFFFFFFFF);
+    equal("ADD of negatives traps", (operate(F_ADD, 0x80000000, 0xFFFFFFFF), word[CAUSE]), 12 << 2);
+    equal("ADDU wraps", operate(F_ADDU, 0xFFFFFFFF, 2), 1);
+    equal("SUB", operate(F_SUB, 5, 7), (uint32_t)-2);
+    equal("SUB traps", (operate(F_SUB, 0x80000000, 1), word[CAUSE]), 12 << 2);
+    equal("SUB of 80000000h traps", (operate(F_SUB, 0, 0x80000000), word[CAUSE]), 12 << 2);
+    equal("SUB -1 - 80000000h", operate(F_SUB, 0xFFFFFFFF, 0x80000000), 0x7FFFFFFF);
+    equal("SUBU wraps", operate(F_SUBU, 0, 0x80000000), 0x80000000);
+    equal("AND", operate(F_AND, 0xFF00FF00, 0x0FF00FF0), 0x0F000F00);
+    equal("OR", operate(F_OR, 0xFF00FF00, 0x0FF00FF0), 0xFFF0FFF0);
+    equal("XOR", operate(F_XOR, 0xFF00FF00, 0x0FF00FF0), 0xF0F0F0F0);
+    equal("NOR", operate(F_NOR, 0xFF00FF00, 0x0FF00FF0), 0x000F000F);
+    equal("SLT", operate(F_SLT, 0x80000000, 0), 1);
+    equal("SLT equal", operate(F_SLT, 5, 5), 0);
+    equal("SLTU", operate(F_SLTU, 0x80000000, 0), 0);
+    equal("SLTU less", operate(F_SLTU, 0, 0xFFFFFFFF), 1);
+    equal("ADDI", operate_immediate(OP_ADDI, 5, -6), 0xFFFFFFFF);
+    equal("ADDI traps", (operate_immediate(OP_ADDI, 0x80000000, -1), word[CAUSE]), 12 << 2);
+    equal("ADDIU", operate_immediate(OP_ADDIU, 0x80000000, -1), 0x7FFFFFFF);
+    equal("SLTI", operate_immediate(OP_SLTI, 0xFFFFFFFE, -1), 1);
+    equal("SLTIU", operate_immediate(OP_SLTIU, 0xFFFFFFFE, -1), 1);
+    equal("SLTIU of 8000h", operate_immediate(OP_SLTIU, 0x8000, -0x8000), 1);
+    equal("ANDI", operate_immediate(OP_ANDI, 0xFFFFFFFF, 0x8001), 0x8001);
+    equal("ORI", operate_immediate(OP_ORI, 0x10000, 0x8001), 0x18001);
+    equal("XORI", operate_immediate(OP_XORI, 0xFFFFFFFF, 0x8001), 0xFFFF7FFE);
+    equal("LUI", operate_immediate(OP_LUI, 0xFFFFFFFF, 0x8001), 0x80010000);
+
+    equal("MULT", hi_lo(F_MULT, 0xFFFFFFFF, 0xFFFFFFFF), 1);
+    equal("MULT sign", hi_lo(F_MULT, 0xFFFFFFFF, 2), 0xFFFFFFFFFFFFFFFE);
+    equal("MULT lowest", hi_lo(F_MULT, 0x80000000, 0x80000000), 0x4000000000000000);
+    equal("MULTU", hi_lo(F_MULTU, 0xFFFFFFFF, 0xFFFFFFFF), 0xFFFFFFFE00000001);
+    equal("DIV -7 / 2", hi_lo(F_DIV, (uint32_t)-7, 2), 0xFFFFFFFFFFFFFFFD);
+    equal("DIV 7 / -2", hi_lo(F_DIV, 7, (uint32_t)-2), 0x00000001FFFFFFFD);
+    equal("DIV 5 / 0", hi_lo(F_DIV, 5, 0), 0x00000005FFFFFFFF);
+    equal("DIV 0 / 0", hi_lo(F_DIV, 0, 0), 0x00000000FFFFFFFF);
+    equal("DIV -5 / 0", hi_lo(F_DIV, (uint32_t)-5, 0), 0xFFFFFFFB00000001);
+    equal("DIV lowest / -1", hi_lo(F_DIV, 0x80000000, 0xFFFFFFFF), 0x0000000080000000);
+    equal("DIVU 5 / 0", hi_lo(F_DIVU, 5, 0), 0x00000005FFFFFFFF);
+    equal("DIVU 80000000h / 0", hi_lo(F_DIVU, 0x80000000, 0), 0x80000000FFFFFFFF);
+    equal("DIVU", hi_lo(F_DIVU, 0xFFFFFFFF, 16), 0x0000000F0FFFFFFF);
+    equal("MULT writes no rd", word[3], 0);
+
+    fresh();
+    word[1] = 5;
+    step(encode_r(F_MTHI, 7, 1, 2, 3));
+    step(encode_r(F_MTLO, 7, 0, 1, 3));
+    equal("MTHI reads rs", word[HI], 5);
+    equal("MTLO reads rs", word[LO], 0);
+    word[LO] = 6;
+    step(encode_r(F_MFHI, 3, 9, 9, 9));
+    step(encode_r(F_MFLO, 4, 9, 9, 9));
+    equal("MFHI", word[3], 5);
+    equal("MFLO", word[4], 6);
+    step(encode_i(OP_ADDIU, 0, 0, 5));
+    equal("r0 stays 0", word[0], 0);
+}
+
+/* ---- Jumps and branches ------------------------------------------------------ */
+
+static bool taken(uint32_t opcode, uint32_t rt, uint32_t r1)
+{
+    fresh();
+    word[1] = r1;
+    step(encode_i(opcode, rt, 1, 0x40));
+    equal("branch PC", word[PC], CODE_BASE + 4);
+    equal("branch word 38", word[SLOT], 1);
+    if (word[NEXT] != CODE_BASE + 4 + 0x100)
+        equal("branch not taken", word[NEXT], CODE_BASE + 8);
+    return word[NEXT] != CODE_BASE + 8;
+}
+
+static void jumps(void)
+{
+    equal("BEQ", taken(OP_BEQ, 0, 0), true);
+    equal("BEQ not", taken(OP_BEQ, 0, 1), false);
+    equal("BNE", taken(OP_BNE, 0, 1), true);
+    equal("BNE not", taken(OP_BNE, 0, 0), false);
+    equal("BLEZ 0", taken(OP_BLEZ, 0, 0), true);
+    equal("BLEZ -1, rt ignored", taken(OP_BLEZ, 7, 0xFFFFFFFF), true);
+    equal("BLEZ 1", taken(OP_BLEZ, 0, 1), false);
+    equal("BGTZ 1, rt ignored", taken(OP_BGTZ, 7, 1), true);
+    equal("BGTZ 0", taken(OP_BGTZ, 0, 0), false);
+    equal("BGTZ -1", taken(OP_BGTZ, 0, 0xFFFFFFFF), false);
+    equal("BLTZ -1", taken(OP_BCOND, 0x00, 0xFFFFFFFF), true);
+    equal("BLTZ 0", taken(OP_BCOND, 0x00, 0), false);
+    equal("BLTZ r31", word[31], 0);
+    equal("BGEZ 0", taken(OP_BCOND, 0x01, 0), true);
+    equal("BGEZ -1", taken(OP_BCOND, 0x01, 0xFFFFFFFF), false);
+    equal("BLTZAL -1", taken(OP_BCOND, 0x10, 0xFFFFFFFF), true);
+    equal("BLTZAL link", word[31], CODE_BASE + 8);
+    equal("BLTZAL 0", taken(OP_BCOND, 0x10, 0), false);
+    equal("BLTZAL link, not taken", word[31], CODE_BASE + 8);
+    equal("BGEZAL 0", taken(OP_BCOND, 0x11, 0), true);
+    equal("BGEZAL -1", taken(OP_BCOND, 0x11, 0xFFFFFFFF), false);
+    equal("BGEZAL link, not taken", word[31], CODE_BASE + 8);
+
+    fresh(); /* T-17: targets start from next PC as it stood */
+    word[PC] = 0x80000010;
+    word[NEXT] = 0xA0000100;
+    word[SLOT] = 1;
+    step(OP_J << 26 | 0x20);
+    equal("T-17 J", word[NEXT], 0xA0000080);
+    equal("T-17 J PC", word[PC], 0xA0000100);
+    fresh();
+    word[PC] = 0x10;
+    word[NEXT] = 0x40;
+    step(encode_i(OP_BCOND, 0x11, 0, -1));
+    equal("T-17 BGEZAL next PC", word[NEXT], 0x3C);
+    equal("T-17 BGEZAL r31", word[31], 0x44);
+    fresh();
+    word[NEXT] = 0xFFFFFFFC;
+    step(encode_j(OP_JAL, 0x0FFFFFFC));
+    equal("JAL next PC", word[NEXT], 0xFFFFFFFC);
+    equal("JAL link wraps", word[31], 0);
+    fresh();
+    word[NEXT] = 0xFFFFFFFC;
+    step(0);
+    equal("next PC wraps", word[NEXT], 0);
+    equal("word 38 after an ordinary step", word[SLOT], 0);
+
+    fresh(); /* T-15: JR to an odd address runs the delay slot first */
+    word[1] = 0x203;
+    put_word(ram + CODE_BASE, encode_r(F_JR, 0, 1, 0, 0));
+    put_word(ram + CODE_BASE + 4, encode_i(OP_ADDIU, 2, 0, 7));
+    equal("T-15 answer", run(2), 2);
+    equal("T-15 delay slot", word[2], 7);
+    equal("T-15 PC", word[PC], 0x203);
+    equal("T-15 answer", run(1), 1);
+    equal("T-15 BADV", word[BADV], 0x203);
+    equal("T-15 EPC", word[EPC], 0x203);
+    equal("T-15 CAUSE", word[CAUSE], 4 << 2);
+    fresh();
+    word[PC] = 0x42;
+    word[SLOT] = 1;
+    equal("T-15 answer", run(1), 1);
+    equal("T-15 EPC in slot", word[EPC], 0x3E);
+    equal("T-15 CAUSE in slot", word[CAUSE], 0x80000010);
+    equal("T-15 BADV in slot", word[BADV], 0x42);
+    fresh(); /* T-16 */
+    word[PC] = 0x40;
+    word[NEXT] = 0x3C;
+    word[SLOT] = 1;
+    step(encode_r(F_SYSCALL, 0, 0, 0, 0));
+    equal("T-16 EPC", word[EPC], 0x3C);
+    equal("T-16 CAUSE", word[CAUSE], 0x80000020);
+}
+
+/* ---- Decoding and exceptions ------------------------------------------------- */
+
+/* CAUSE after one instruction from a fresh machine with this SR. */
+static uint32_t cause_of(uint32_t instruction, uint32_t sr)
+{
+    fresh();
+    word[SR] = sr;
+    step(instruction);
+    return word[CAUSE];
+}
+
+#define USER 2u
+#define CAUSE_RI (10u << 2)
+#define CAUSE_CPU(z) ((z) << 28 | 11u << 2)
+
+static void decoding(void)
+{
+    static const uint8_t special[] = {0x00, 0x02, 0x03, 0x04, 0x06, 0x07, 0x08, 0x09, 0x10, 0x11, 0x12, 0x13, 0x18, 0x19,
+                                      0x1A, 0x1B, 0x20, 0x21, 0x22, 0x23, 0x24, 0x25, 0x26, 0x27, 0x2A, 0x2B};
+    static const uint8_t reserved[] = {0x14, 0x15, 0x16, 0x17, 0x18, 0x19, 0x1A, 0x1B, 0x1C, 0x1D, 0x1E, 0x1F, 0x27,
+                                       0x2C, 0x2D, 0x2F, 0x30, 0x34, 0x35, 0x36, 0x37, 0x38, 0x3C, 0x3D, 0x3E, 0x3F};
+    unsigned i, j;
+
+    for (i = 0; i < 64; i++) {
+        uint32_t expected = i == 0x0C ? 8 << 2 : i == 0x0D ? 9 << 2 : CAUSE_RI;
+
+        for (j = 0; j < sizeof special; j++)
+            if (special[j] == i)
+                expected = 0;
+        equal("SPECIAL", cause_of(0x03FFFFC0 | i, 0), expected);
+    }
+    for (i = 0; i < 32; i++)
+        equal("BCOND", cause_of(encode_i(OP_BCOND, i, 0, 0), 0), i == 0 || i == 1 || i == 0x10 || i == 0x11 ? 0 : CAUSE_RI);
+    for (i = 0; i < sizeof reserved; i++) {
+        equal("reserved opcode", cause_of((uint32_t)reserved[i] << 26, 0xF0000000), CAUSE_RI);
+        equal("reserved opcode, user mode", cause_of((uint32_t)reserved[i] << 26, USER), CAUSE_RI);
+    }
+    for (i = 0; i < 32; i++) {
+        bool move0 = i == 0 || i == 4, move2 = i == 0 || i == 2 || i == 4 || i == 6;
+
+        equal("COP0 form", cause_of(0x40000000 | i << 21, 0), move0 ? 0 : CAUSE_RI);
+        equal("COP0 form, user mode", cause_of(0x40000000 | i << 21, USER), CAUSE_CPU(0u));
+        equal("COP0 form, user mode with CU0", cause_of(0x40000000 | i << 21, USER | 0x10000000), move0 ? 0 : CAUSE_RI);
+        equal("COP0 form with funct 10h", cause_of(0x40000010 | i << 21, 0), move0 || i >= 16 ? 0 : CAUSE_RI);
+        equal("COP2 form", cause_of(0x48000006 | i << 21, CU2), move2 || i >= 16 ? 0 : CAUSE_RI);
+        equal("COP2 form, CU2 clear", cause_of(0x48000006 | i << 21, 0xB0000000), CAUSE_CPU(2u));
+        equal("COP2 form, user mode", cause_of(0x48000006 | i << 21, USER | CU2), move2 || i >= 16 ? 0 : CAUSE_RI);
+        equal("COP1 form", cause_of(0x44000000 | i << 21, 0xD0000000), CAUSE_CPU(1u));
+        equal("COP1 form with CU1", cause_of(0x44000000 | i << 21, 0x20000000), CAUSE_RI);
+        equal("COP3 form", cause_of(0x4C000000 | i << 21, 0x70000000), CAUSE_CPU(3u));
+        equal("COP3 form with CU3", cause_of(0x4C000000 | i << 21, 0x80000000), CAUSE_RI);
+    }
+    for (i = 0; i < 64; i++)
+        equal("COP0 function", cause_of(0x42000000 | i, 0), i == 0x10 ? 0 : CAUSE_RI);
+    equal("T-26 bits 24..6 ignored", cause_of(0x43FFFFD0, 0), 0);
+    equal("T-26 funct 30h", cause_of(0x42000030, 0), CAUSE_RI);
+    /* T-22: loads and stores of COP1 and COP3 with bad addresses */
+    equal("LWC1", cause_of(0x31u << 26 | 1, 0), CAUSE_CPU(1u));
+    equal("LWC3", cause_of(0x33u << 26 | 1, 0), CAUSE_CPU(3u));
+    equal("SWC1", cause_of(0x39u << 26 | 1, 0), CAUSE_CPU(1u));
+    equal("SWC3", cause_of(0x3Bu << 26 | 1, 0), CAUSE_CPU(3u));
+    equal("LWC1 with CU1", cause_of(0x31u << 26 | 1, 0x20000000), CAUSE_RI);
+    equal("LWC3 with CU3", cause_of(0x33u << 26 | 1, 0x80000000), CAUSE_RI);
+    equal("SWC1 with CU1", cause_of(0x39u << 26 | 1, 0x20000000), CAUSE_RI);
+    equal("SWC3 with CU3", cause_of(0x3Bu << 26 | 1, 0x80000000), CAUSE_RI);
+    equal("SWC2, CU2 clear", cause_of(encode_i(OP_SWC2, 0, 0, 1), 0), CAUSE_CPU(2u));
+    equal("SWC2 misaligned", cause_of(encode_i(OP_SWC2, 0, 0, 1), CU2), 5 << 2);
+    equal("LWC2 misaligned", cause_of(encode_i(OP_LWC2, 0, 0, 1), CU2), 4 << 2);
+    equal("RFE in user mode", cause_of(RFE, USER), CAUSE_CPU(0u));
+}
+
+static void exceptions(void)
+{
+    fresh(); /* T-18 */
+    word[SR] = USER;
+    word[PC] = 0x80000000;
+    run(1);
+    equal("T-18 AdEL", word[CAUSE], 4 << 2);
+    equal("T-18 BADV", word[BADV], 0x80000000);
+    equal("T-18 SR", word[SR], 8);
+    fresh();
+    word[SR] = USER;
+    word[PC] = 0x20000000;
+    word[BADV] = 77;
+    run(1);
+    equal("T-18 IBE", word[CAUSE], 6 << 2);
+    equal("T-18 BADV unchanged", word[BADV], 77);
+    fresh();
+    word[1] = 0xC0000000;
+    step(encode_i(OP_LW, 2, 1, 0));
+    equal("T-18 kernel DBE", word[CAUSE], 7 << 2);
+    equal("T-18 kernel BADV", word[BADV], 0);
+    fresh();
+    word[SR] = USER;
+    word[1] = 0xC0000000;
+    step(encode_i(OP_LW, 2, 1, 0));
+    equal("T-18 user AdEL", word[CAUSE], 4 << 2);
+    equal("T-18 user BADV", word[BADV], 0xC0000000);
+    fresh();
+    word[SR] = USER;
+    word[1] = 0x80000000;
+    step(encode_i(OP_SWL, 2, 1, 1));
+    equal("user SWL AdES", word[CAUSE], 5 << 2);
+    equal("user SWL BADV", word[BADV], 0x80000001);
+
+    fresh(); /* T-19 */
+    word[SR] = 0;
+    word[CAUSE] = 0xB000037C;
+    step(encode_i(OP_LWC2, 0, 0, 1));
+    equal("T-19 CU2 clear", word[CAUSE], 0x2000032C);
+    fresh();
+    word[CAUSE] = 0xB000037C;
+    step(encode_i(OP_LWC2, 0, 0, 1));
+    equal("T-19 CU2 set", word[CAUSE], 0x00000310);
+
+    fresh(); /* T-23 */
+    word[PC] = 0;
+    word[NEXT] = 4;
+    word[SR] = 0x00400007;
+    step(encode_r(F_BREAK, 0, 0, 0, 0));
+    equal("T-23 PC", word[PC], 0xBFC00180);
+    equal("T-23 next PC", word[NEXT], 0xBFC00184);
+    equal("T-23 SR", word[SR], 0x0040001C);
+    equal("T-23 CAUSE", word[CAUSE], 9 << 2);
+    run(1);
+    equal("T-23 EPC", word[EPC], 0xBFC00180);
+    equal("T-23 SR again", word[SR], 0x00400030);
+    equal("T-23 CAUSE again", word[CAUSE], 6 << 2);
+    equal("T-23 further steps", run(100), 100);
+    equal("T-23 SR at last", word[SR], 0x00400000);
+
+    fresh(); /* T-24 */
+    word[PC] = 0x80000100;
+    word[NEXT] = 0x80000104;
+    word[1] = 0xFFFFFFFF;
+    step(encode_move(0, 4, 1, 12));
+    equal("T-24 SR", word[SR], 0xF24FFF3F);
+    run(1);
+    equal("T-24 AdEL", word[CAUSE], 4 << 2);
+    equal("T-24 BADV", word[BADV], 0x80000104);
+    equal("T-24 SR after", word[SR], 0xF24FFF3C);
+
+    static const uint32_t bus_errors[] = {0x20000000, 0x40000000, 0x60000000, 0xC0000000, 0xE0000000,
+                                          0x00001000, 0x80001000, 0xA0001000, 0x1FFFFFFC, 0xFFFFFFFC};
+    unsigned i;
+    for (i = 0; i < sizeof bus_errors / sizeof *bus_errors; i++) { /* T-25 */
+        fresh();
+        word[1] = bus_errors[i];
+        step(encode_i(OP_SW, 1, 1, 0));
+        equal("store DBE", word[CAUSE], 7 << 2);
+        equal("store DBE BADV", word[BADV], 0); /* T-30 */
+        fresh();
+        word[PC] = bus_errors[i];
+        run(1);
+        equal("fetch IBE", word[CAUSE], 6 << 2);
+    }
+    static const uint32_t segments[] = {0, 0x80000000, 0xA0000000};
+    for (i = 0; i < 3; i++) {
+        fresh();
+        word[1] = segments[i] + 0x1004;
+        word[2] = 0x11223344;
+        step(encode_i(OP_SW, 2, 1, -8));
+        equal("segment", get_word(ram + 0xFFC), 0x11223344);
+    }
+    fresh(); /* base plus offset modulo 2^32 */
+    word[1] = 4;
+    put_word(ram + 4, 0x99);
+    step(encode_i(OP_LW, 2, 1, -8));
+    equal("address below zero", word[CAUSE], 7 << 2);
+    fresh();
+    word[1] = 0xFFFFFFFC;
+    put_word(ram + 4, 0x99);
+    step(encode_i(OP_LW, 2, 1, 8));
+    equal("address past 2^32", word[WAITING], 0x99);
+
+    fresh(); /* T-35 */
+    ram_length = 4;
+    word[PC] = 4;
+    equal("T-35", run(10), 10);
+    equal("T-35 PC", word[PC], 0x80000080);
+    equal("T-35 CAUSE", word[CAUSE], 6 << 2);
+
+    fresh(); /* T-29: the unaligned address of LWL is BADV in user mode */
+    word[SR] = USER;
+    word[1] = 0x80000003;
+    step(encode_i(OP_LWL, 2, 1, 0));
+    equal("T-29 BADV", word[BADV], 0x80000003);
+    fresh();
+    ram_length = 0x104;
+    step(encode_i(OP_LWL, 2, 0, 0x103));
+    equal("T-29 last byte", word[WAIT], 2);
+    fresh();
+    ram_length = 0x104;
+    step(encode_i(OP_LWR, 2, 0, 0x104));
+    equal("T-29 past the end", word[CAUSE], 7 << 2);
+
+    fresh(); /* nothing else changes */
+    uint32_t before[MODEL_IMAGE_WORDS];
+    for (i = 1; i < 34; i++)
+        word[i] = 0x1000 * i;
+    word[EPC] = 5;
+    word[CAUSE] = 0x300;
+    word[SR] = 0xF20FFF3F & ~USER;
+    memcpy(before, word, sizeof word);
+    step(encode_r(F_SYSCALL, 31, 31, 31, 31));
+    before[PC] = 0x80000080;
+    before[NEXT] = 0x80000084;
+    before[EPC] = CODE_BASE;
+    before[CAUSE] = 0x320;
+    before[SR] = 0xF20FFF34;
+    equal("SYSCALL changes", memcmp(before, word, sizeof word), 0);
+}
+
+static void coprocessor0(void)
+{
+    unsigned i;
+
+    for (i = 0; i < 32; i++) {
+        fresh();
+        word[BADV] = 0x11111111;
+        word[SR] = 0x40000040 & 0xF24FFF3F;
+        word[CAUSE] = 0x30000100;
+        word[EPC] = 0x44444444;
+        step(encode_move(0, 0, 1, i) | 0x7FF);
+        equal("MFC0", word[WAITING],
+              i == 8 ? 0x11111111 : i == 12 ? 0x40000000 : i == 13 ? 0x30000100 : i == 14 ? 0x44444444 : 0);
+        fresh();
+        word[1] = 0xFFFFFFFD;
+        word[BADV] = word[EPC] = 0x55555555;
+        step(encode_move(0, 4, 1, i) | 0x7FF);
+        equal("MTC0 SR", word[SR], i == 12 ? 0xF24FFF3D : CU2);
+        equal("MTC0 CAUSE", word[CAUSE], i == 13 ? 0x300 : 0);
+        equal("MTC0 EPC", word[EPC], 0x55555555);
+        equal("MTC0 BADV", word[BADV], 0x55555555);
+    }
+    fresh();
+    word[CAUSE] = 0xB000037C;
+    step(encode_move(0, 4, 0, 13));
+    equal("MTC0 CAUSE keeps the rest", word[CAUSE], 0xB000007C);
+    fresh();
+    word[SR] = 0x34;
+    step(RFE);
+    equal("RFE", word[SR], 0x3D);
+    fresh(); /* no interrupts */
+    word[SR] = 0x0000FF01;
+    word[CAUSE] = 0x300;
+    step(0);
+    equal("no interrupt", word[PC], CODE_BASE + 4);
+    fresh(); /* IsC and RE have no effect */
+    word[SR] = 0x02010002;
+    word[1] = 0x11223344;
+    step(encode_i(OP_SW, 1, 0, 0x20));
+    equal("IsC and RE", ram[0x20], 0x44);
+}
+
+/* ---- Loads and stores -------------------------------------------------------- */
+
+static void memory(void)
+{
+    static const uint32_t lwl[4] = {0x11BBCCDD, 0x2211CCDD, 0x332211DD, 0x44332211};
+    static const uint32_t lwr[4] = {0x44332211, 0xAA443322, 0xAABB4433, 0xAABBCC44};
+    static const uint32_t swl[4] = {0x443322AA, 0x4433AABB, 0x44AABBCC, 0xAABBCCDD};
+    static const uint32_t swr[4] = {0xAABBCCDD, 0xBBCCDD11, 0xCCDD2211, 0xDD332211};
+    uint32_t n;
+
+    for (n = 0; n < 4; n++) {
+        fresh();
+        put_word(ram + 0x20, 0x44332211);
+        word[1] = 0xAABBCCDD;
+        step(encode_i(OP_LWL, 1, 0, 0x20 + (int32_t)n));
+        equal("LWL", word[WAITING], lwl[n]);
+        fresh();
+        put_word(ram + 0x20, 0x44332211);
+        word[1] = 0xAABBCCDD;
+        step(encode_i(OP_LWR, 1, 0, 0x20 + (int32_t)n));
+        equal("LWR", word[WAITING], lwr[n]);
+        fresh();
+        put_word(ram + 0x20, 0x44332211);
+        word[1] = 0xAABBCCDD;
+        step(encode_i(OP_SWL, 1, 0, 0x20 + (int32_t)n));
+        equal("SWL", get_word(ram + 0x20), swl[n]);
+        fresh();
+        put_word(ram + 0x20, 0x44332211);
+        word[1] = 0xAABBCCDD;
+        step(encode_i(OP_SWR, 1, 0, 0x20 + (int32_t)n));
+        equal("SWR", get_word(ram + 0x20), swr[n]);
+        fresh();
+        put_word(ram + 0x20, 0x84838281);
+        step(encode_i(OP_LB, 1, 0, 0x20 + (int32_t)n));
+        equal("LB", word[WAITING], 0xFFFFFF81 + n);
+        fresh();
+        put_word(ram + 0x20, 0x84838281);
+        step(encode_i(OP_LBU, 1, 0, 0x20 + (int32_t)n));
+        equal("LBU", word[WAITING], 0x81 + n);
+        fresh();
+        put_word(ram + 0x20, 0x44332211);
+        word[1] = 0xAABBCCDD;
+        step(encode_i(OP_SB, 1, 0, 0x20 + (int32_t)n));
+        equal("SB", get_word(ram + 0x20), (0x44332211 & ~(0xFFu << 8 * n)) | 0xDDu << 8 * n);
+
+        fresh();
+        put_word(ram + 0x20, 0x84838281);
+        step(encode_i(OP_LH, 1, 0, 0x20 + (int32_t)n));
+        equal("LH", n & 1 ? word[CAUSE] : word[WAITING], n & 1 ? 4 << 2 : n ? 0xFFFF8483 : 0xFFFF8281);
+        fresh();
+        put_word(ram + 0x20, 0x84838281);
+        step(encode_i(OP_LHU, 1, 0, 0x20 + (int32_t)n));
+        equal("LHU", n & 1 ? word[CAUSE] : word[WAITING], n & 1 ? 4 << 2 : n ? 0x8483 : 0x8281);
+        fresh();
+        put_word(ram + 0x20, 0x44332211);
+        word[1] = 0xAABBCCDD;
+        step(encode_i(OP_SH, 1, 0, 0x20 + (int32_t)n));
+        equal("SH", get_word(ram + 0x20), n & 1 ? 0x44332211 : n ? 0xCCDD2211 : 0x4433CCDD);
+        equal("SH code", word[CAUSE], n & 1 ? 5 << 2 : 0);
+        fresh();
+        step(encode_i(OP_LW, 1, 0, 0x20 + (int32_t)n));
+        equal("LW code", word[CAUSE], n ? 4 << 2 : 0);
+        fresh();
+        step(encode_i(OP_SW, 1, 0, 0x20 + (int32_t)n));
+        equal("SW code", word[CAUSE], n ? 5 << 2 : 0);
+        equal("SW BADV", word[BADV], n ? 0x20 + n : 0);
+    }
+}
+
+/* ---- COP2 registers ---------------------------------------------------------- */
+
+static void cop2_registers(void)
+{
+    unsigned i;
+
+    for (i = 0; i < 64; i++) { /* 001's example: 12008900h to a signed 16-bit register is FFFF8900h */
+        bool sign = i == 1 || i == 3 || i == 5 || (i >= 8 && i <= 11) || i == 36 || i == 44 || i == 52 || i == 58 ||
+                    i == 59 || i == 61 || i == 62;
+        uint32_t expected = sign ? 0xFFFF8900 : 0x12008900;
+
+        if (i >= 16 && i <= 19)
+            expected = 0x8900;
+        if (i == 7 || i == 29)
+            expected = 0;
+        if (i == 28)
+            expected = 0x0900; /* fields 0, 8, 2 of 8900h */
+        if (i == 31)
+            expected = 32;
+        if (i == 63)
+            expected = 0x92008000;
+        fresh();
+        word[1] = 0x12008900;
+        step(encode_move(2, i < 32 ? 4 : 6, 1, i & 31));
+        step(encode_move(2, i < 32 ? 0 : 2, 2, i & 31));
+        equal(cop2_register_name(i), word[WAITING], expected);
+        equal("register 2 not yet written", word[2], 0);
+        step(0);
+        equal("register 2 written", word[2], expected);
+        if (i < 32) { /* through memory by the same rules */
+            fresh();
+            put_word(ram + 0x20, 0x12008900);
+            step(encode_i(OP_LWC2, i, 0, 0x20));
+            step(encode_i(OP_SWC2, i, 0, 0x24));
+            equal("LWC2 and SWC2", get_word(ram + 0x24), expected);
+        }
+    }
+
+    fresh(); /* T-78 */
+    set(28, 0xFFFFFFFF);
+    equal("T-78 IR1", cop2(9), 0xF80);
+    equal("T-78 IR2", cop2(10), 0xF80);
+    equal("T-78 IR3", cop2(11), 0xF80);
+    equal("T-78 IRGB", cop2(28), 0x7FFF);
+    equal("T-78 ORGB", cop2(29), 0x7FFF);
+    set(9, 0xFFFFFFFF);
+    set(10, 0x1000);
+    set(11, 0x7F);
+    equal("T-78 limits", cop2(28), 0x3E0);
+    fresh();
+    set(14, 5);
+    set(15, 7);
+    equal("T-78 SXY0", cop2(12), 0);
+    equal("T-78 SXY1", cop2(13), 5);
+    equal("T-78 SXY2", cop2(14), 7);
+    equal("T-78 SXYP", cop2(15), 7);
+    fresh();
+    set(12, 1);
+    set(13, 2);
+    set(14, 3);
+    set(16, 4);
+    set(19, 5);
+    set(20, 6);
+    set(22, 7);
+    equal("no FIFO moves", cop2(12) + cop2(13) * 10 + cop2(14) * 100 + cop2(16) * 1000 + cop2(19) * 10000, 54321);
+    equal("no colour moves", cop2(20) * 10 + cop2(22), 67);
+    for (i = 12; i < 31; i++) { /* bit 31 of FLAG, bit by bit */
+        fresh();
+        set(63, 1u << i);
+        equal("FLAG error bit", cop2(63) >> 31, (i >= 23) || (i >= 13 && i <= 18));
+    }
+    fresh();
+    set(63, 0x80000FFF);
+    equal("FLAG bit 31 is read only", cop2(63), 0);
+}
+
+/* ---- GTE commands ------------------------------------------------------------ */
+
+static void command(uint32_t number, uint32_t sf, uint32_t lm)
+{
+    step(encode_command(number, sf, lm));
+}
+
+static void gte(void)
+{
+    unsigned i;
+
+    /* T-37: low 32 bits are stored, then IR is limited from them */
+    for (i = 0; i < 2; i++) {
+        fresh();
+        for (unsigned k = 40; k <= 43; k++)
+            set(k, 0x80008000);
+        set(44, 0x8000);
+        set(0, 0x80008000);
+        set(1, 0x8000);
+        step(encode_mvmva(0, 1, 0, 3, i));
+        equal("T-37 MAC1", cop2(25), (uint32_t)-1073741824);
+        equal("T-37 MAC3", cop2(27), (uint32_t)-1073741824);
+        equal("T-37 IR1", cop2(9), i ? 0 : 0xFFFF8000);
+        equal("T-37 FLAG", cop2(63), 0x81C00000);
+    }
+
+    fresh(); /* T-38 */
+    set(53, 0x100000);
+    set(6, 1);
+    set(8, 0x1000);
+    command(0x10, 0, 0);
+    /* IR1 -8000h times IR0 1000h plus 10000h */
+    equal("T-38 MAC1", cop2(25), (uint32_t)(-0x8000 * 0x1000 + 0x10000));
+    equal("T-38 bit 24", cop2(63) >> 24 & 1, 1);
+
+    fresh(); /* T-39 */
+    set(9, 0x8000);
+    set(53, 0x7FFFFFFF);
+    set(8, 0);
+    command(0x11, 1, 0);
+    equal("T-39 IR0 0: MAC1", cop2(25), (uint32_t)-32768);
+    fresh();
+    set(9, 0x8000);
+    set(53, 0x7FFFFFFF);
+    set(8, 0x1000);
+    command(0x11, 1, 0);
+    equal("T-39 MAC1", cop2(25), (uint32_t)-65536);
+    equal("T-39 FLAG", cop2(63), 0xC1200000);
+
+    fresh(); /* T-40 */
+    set(25, 0x7FFFFFFF);
+    set(9, 1);
+    set(8, 1);
+    command(0x3E, 0, 0);
+    equal("T-40 MAC1", cop2(25), 0x80000000);
+    equal("T-40 IR1", cop2(9), 0xFFFF8000);
+    equal("T-40 FLAG", cop2(63), 0x81200000);
+    fresh();
+    set(25, 0x7FFFFFFF);
+    set(9, 0x1000);
+    set(8, 1);
+    command(0x3E, 1, 0);
+    equal("T-40 bit 30", cop2(63) >> 30 & 1, 1);
+    equal("T-40 MAC1 wraps", cop2(25), 0x80000000);
+    fresh();
+    set(26, 0x80000000);
+    command(0x3E, 1, 0);
+    equal("T-40 lowest MAC2 is inside", cop2(63) & 0x7E000000, 0);
+    equal("T-40 lowest MAC2", cop2(26), 0x80000000);
+
+    fresh(); /* T-41 */
+    set(32, halves(0x7FFF, 0x7FFF));
+    set(33, halves(0x1000, 0));
+    set(36, 0x7FFF);
+    set(0, halves(0x7FFF, 0x7FFF));
+    set(1, (uint32_t)-1);
+    set(53, 0x7FFFFFFF);
+    step(encode_mvmva(1, 0, 0, 2, 1));
+    equal("T-41 MAC1", cop2(25), (uint32_t)-1);
+    equal("T-41 MAC2", cop2(26), 0);
+    equal("T-41 MAC3", cop2(27), (uint32_t)-8);
+    equal("T-41 IR", cop2(9) | cop2(10) | cop2(11), 0);
+    equal("T-41 FLAG", cop2(63), 0xC1400000);
+
+    fresh(); /* T-42 */
+    set(33, halves(2, 0));
+    set(34, halves(3, 0));
+    set(8, 0x1000);
+    set(0, halves(1, 1));
+    set(1, 1);
+    step(encode_mvmva(0, 3, 0, 3, 0));
+    equal("T-42 MAC1", cop2(25), 4096);
+    equal("T-42 MAC2", cop2(26), 6);
+    equal("T-42 MAC3", cop2(27), 9);
+    fresh(); /* -60h first, then 60h */
+    set(0, halves(1, 0));
+    step(encode_mvmva(0, 3, 0, 3, 0));
+    equal("T-42 first element", cop2(25), (uint32_t)-0x60);
+
+    fresh(); /* T-43 */
+    set(39, 0x10);
+    command(0x01, 0, 0);
+    equal("T-43 MAC3", cop2(27), 65536);
+    equal("T-43 IR3", cop2(11), 0x7FFF);
+    equal("T-43 SZ3", cop2(19), 0x10);
+    equal("T-43 FLAG", cop2(63), 0);
+    fresh();
+    set(39, 0x9000);
+    command(0x01, 1, 0);
+    equal("T-43 sf 1 FLAG", cop2(63), 0x00400000);
+    equal("T-43 sf 1 IR3", cop2(11), 0x7FFF);
+    equal("T-43 sf 1 SZ3", cop2(19), 0x9000);
+    fresh(); /* lm has no effect on RTPS */
+    set(37, (uint32_t)-5);
+    set(39, 0x100);
+    command(0x01, 1, 1);
+    equal("RTPS lm IR1", cop2(9), (uint32_t)-5);
+    equal("RTPS lm FLAG", cop2(63), 0);
+
+    fresh(); /* T-44 */
+    set(39, 0x7FFFFFFF);
+    set(36, 0x1000);
+    set(1, 1);
+    set(58, 0x10);
+    command(0x01, 1, 0);
+    equal("T-44 FLAG", cop2(63), 0x90460000);
+    equal("T-44 SZ3", cop2(19), 0);
+    equal("T-44 MAC3", cop2(27), 0x80000000);
+    fresh(); /* T-45: at sf 0 the 44-bit sum, not the stored MAC3, gives SZ3 */
+    set(39, 0x100000);
+    command(0x01, 0, 0);
+    equal("T-45 MAC3", cop2(27), 0);
+    equal("T-45 SZ3", cop2(19), 0xFFFF);
+    equal("T-45 FLAG", cop2(63), 0x80440000);
+
+    fresh(); /* T-46 */
+    set(37, (uint32_t)-32768);
+    set(39, 1000);
+    set(58, 1999);
+    set(56, 0x80000000);
+    command(0x01, 1, 0);
+    equal("T-46 FLAG", cop2(63), 0x8000C000);
+    equal("T-46 MAC0", cop2(24), 0);
+    equal("T-46 SX", cop2(14), halves(-0x400, 0));
+    fresh(); /* T-47 */
+    set(37, 32767);
+    set(39, 1000);
+    set(58, 1999);
+    command(0x01, 1, 0);
+    equal("T-47 FLAG", cop2(63), 0x80014000);
+    equal("T-47 SX", cop2(14), halves(0x3FF, 0));
+    fresh();
+    set(62, 0x7FFF);
+    for (i = 16; i < 20; i++)
+        set(i, 0xFFFF);
+    command(0x2E, 0, 0);
+    equal("T-47 AVSZ4 MAC0", cop2(24), (uint32_t)((int64_t)0x7FFF * 4 * 0xFFFF));
+    equal("T-47 AVSZ4 OTZ", cop2(7), 0xFFFF);
+    equal("T-47 AVSZ4 FLAG", cop2(63), 0x80050000);
+    fresh(); /* a negative factor: ZSF3 is signed */
+    set(61, (uint32_t)-1);
+    set(17, 1);
+    command(0x2D, 0, 0);
+    equal("AVSZ3 negative MAC0", cop2(24), (uint32_t)-1);
+    equal("AVSZ3 negative OTZ", cop2(7), 0);
+    equal("AVSZ3 negative FLAG", cop2(63), 0x80040000);
+
+    fresh(); /* T-48 */
+    set(12, halves(-0x8000, -0x8000));
+    set(13, halves(0x7FFF, -0x8000));
+    set(14, halves(-0x8000, 0x7FFF));
+    command(0x06, 0, 0);
+    equal("T-48 MAC0", cop2(24), (uint32_t)-131071);
+    equal("T-48 FLAG", cop2(63), 0x80010000);
+
+    fresh(); /* T-49 */
+    set(25, (uint32_t)-1);
+    command(0x3E, 0, 0);
+    equal("T-49 colour", cop2(22), 0);
+    equal("T-49 FLAG", cop2(63), 0x00200000);
+    fresh(); /* 4080/16 is 255; 4096/16 is past it */
+    set(25, 4095);
+    set(26, 4096);
+    set(6, 0xAB000000);
+    command(0x3E, 0, 0);
+    equal("colour limit", cop2(22), 0xAB00FFFF);
+    equal("colour limit FLAG", cop2(63), 0x00100000);
+
+    fresh(); /* T-50: one FLAG bit */
+    set(45, 0x9000);
+    command(0x1E, 1, 0);
+    equal("T-50 FLAG", cop2(63), 0x81200000);
+    equal("T-50 IR1", cop2(9), 0x7FFF);
+    equal("T-50 colour", cop2(22), 0xFF);
+
+    fresh(); /* T-52 */
+    set(20, 0x01000010);
+    set(21, 0x02000020);
+    set(22, 0x03000030);
+    set(6, 0x7F123456);
+    command(0x2A, 1, 0);
+    equal("T-52 RGB0", cop2(20), 0x7F000010);
+    equal("T-52 RGB1", cop2(21), 0x7F000020);
+    equal("T-52 RGB2", cop2(22), 0x7F000030);
+
+    fresh(); /* T-53 */
+    set(9, 0x8000);
+    command(0x28, 0, 1);
+    equal("T-53 MAC1", cop2(25), 0x40000000);
+    equal("T-53 IR1", cop2(9), 0x7FFF);
+    fresh();
+    set(9, 1);
+    set(10, 2);
+    set(11, 3);
+    set(32, halves(4, 99));
+    set(34, halves(5, 99));
+    set(36, 6);
+    command(0x0C, 0, 0);
+    equal("OP MAC1", cop2(25), (uint32_t)(3 * 5 - 2 * 6));
+    equal("OP MAC2", cop2(26), (uint32_t)(1 * 6 - 3 * 4));
+    equal("OP MAC3", cop2(27), (uint32_t)(2 * 4 - 1 * 5));
+    equal("OP IR2", cop2(10), (uint32_t)-6);
+    fresh(); /* OP with lm limits below at 0 */
+    set(9, 1);
+    set(36, 6);
+    set(11, 3);
+    set(32, 4);
+    command(0x0C, 0, 1);
+    equal("OP lm IR2", cop2(10), 0);
+    equal("OP lm FLAG", cop2(63), 0x80800000);
+
+    fresh(); /* T-54: MVMVA with IR takes all from the old IR */
+    set(9, 1);
+    set(10, 2);
+    set(11, 3);
+    set(32, halves(10, 0));
+    set(33, halves(0, 100));
+    set(35, halves(1000, 0));
+    step(encode_mvmva(0, 0, 3, 3, 0));
+    equal("T-54 MAC1", cop2(25), 10);
+    equal("T-54 MAC2", cop2(26), 100);
+    equal("T-54 MAC3", cop2(27), 1000);
+    fresh(); /* the second product of NCS takes the new IR */
+    set(40, 0x1000); /* L11 */
+    set(48, 0x1000); /* LR1 */
+    set(0, 0x123);
+    set(9, 0x777);
+    command(0x1E, 1, 0);
+    equal("T-54 NCS MAC1", cop2(25), 0x123);
+
+    fresh(); /* T-56 */
+    set(58, 0xFFFF);
+    equal("T-56 H reads", cop2(58), 0xFFFFFFFF);
+    set(39, 0x8000);
+    command(0x01, 1, 0);
+    equal("T-56 bit 17", cop2(63) >> 17 & 1, 0);
+    fresh();
+    set(58, 0xFFFF);
+    set(39, 0x7FFF);
+    command(0x01, 1, 0);
+    equal("T-56 bit 17 set", cop2(63) >> 17 & 1, 1);
+    bool overflow;
+    uint32_t h, z;
+    equal("quotient 0/0", model_quotient(0, 0, &overflow), 0x1FFFF);
+    equal("quotient 0/0 overflow", overflow, true);
+    equal("quotient 0/1", model_quotient(0, 1, &overflow), 0);
+    equal("quotient 1/1", model_quotient(1, 1, &overflow), 65536);
+    for (z = 1; z <= 0xFFFF; z++) { /* T-57: no quotient past 1FFFFh without the flag */
+        h = 2 * z - 1 > 0xFFFF ? 0xFFFF : 2 * z - 1;
+        if (model_quotient(h, z, &overflow) > 0x1FFFF || overflow)
+            equal("T-57", z, 0);
+    }
+
+    fresh(); /* T-79 */
+    set(45, 1);
+    set(6, 0x80);
+    command(0x1B, 0, 0);
+    equal("T-79 MAC1", cop2(25), 8388608);
+    equal("T-79 IR1", cop2(9), 0x7FFF);
+    equal("T-79 colour", cop2(22), 0xFF);
+    equal("T-79 FLAG", cop2(63), 0x81200000);
+
+    fresh(); /* T-80 */
+    set(36, 0x1000);
+    set(1, 100);
+    set(3, 200);
+    set(5, 300);
+    set(19, 7);
+    set(58, 50);
+    set(59, 1);
+    command(0x30, 1, 0);
+    equal("T-80 SZ0", cop2(16), 7);
+    equal("T-80 SZ1", cop2(17), 100);
+    equal("T-80 SZ2", cop2(18), 200);
+    equal("T-80 SZ3", cop2(19), 300);
+    equal("T-80 MAC3", cop2(27), 300);
+    equal("T-80 MAC0", cop2(24), model_quotient(50, 300, &overflow));
+
+    fresh(); /* T-84: the depth-cue line runs for V0 and V1 too */
+    set(36, 0x1000);
+    set(1, 100);
+    set(3, 20000);
+    set(5, 20000);
+    set(58, 190);
+    set(59, 0x7FFF);
+    command(0x30, 1, 0);
+    equal("T-84 IR0", cop2(8), 0x1000);
+    equal("T-84 bit 16 from V0", cop2(63) >> 16 & 1, 1);
+    equal("T-84 MAC0 of V2", cop2(24), model_quotient(190, 20000, &overflow) * 0x7FFF);
+    fresh(); /* 1000h is inside the range of IR0, 1001h is not */
+    set(39, 1);
+    set(60, 0x1000000);
+    command(0x01, 1, 0);
+    equal("IR0 1000h", cop2(8), 0x1000);
+    equal("IR0 1000h FLAG", cop2(63), 0);
+    fresh();
+    set(39, 1);
+    set(60, 0x1001000);
+    command(0x01, 1, 0);
+    equal("IR0 1001h", cop2(8), 0x1000);
+    equal("IR0 1001h FLAG", cop2(63), 0x00001000);
+    fresh();
+    set(39, 1);
+    set(60, 0xFFFFFFFF);
+    command(0x01, 1, 0);
+    equal("IR0 -1", cop2(8), 0);
+    equal("IR0 -1 FLAG", cop2(63), 0x00001000);
+
+    fresh(); /* FLAG is cleared as a command begins */
+    set(63, 0xFFFFFFFF);
+    command(0x06, 0, 0);
+    equal("FLAG cleared", cop2(63), 0);
+
+    fresh(); /* matrices: three rows of three, each element in its place */
+    for (unsigned m = 0; m < 3; m++) {
+        for (unsigned e = 0; e < 9; e++) {
+            unsigned base = 32 + 8 * m, row = e / 3, column = e % 3;
+
+            fresh();
+            set(base + e / 2, e % 2 ? 0x00010000 : 1);
+            set(0, halves(10, 20));
+            set(1, 30);
+            step(encode_mvmva(0, m, 0, 3, 0));
+            equal("matrix element", cop2(25 + row), 10 * (column + 1));
+            equal("other rows", cop2(25) + cop2(26) + cop2(27), 10 * (column + 1));
+        }
+    }
+    for (i = 0; i < 4; i++) { /* vectors and translations of MVMVA */
+        fresh();
+        set(32, 1); /* RT11 */
+        set(0, 1);
+        set(2, 2);
+        set(4, 3);
+        set(9, 4);
+        step(encode_mvmva(0, 0, i, 3, 0));
+        equal("MVMVA vector", cop2(25), i + 1);
+        fresh();
+        set(37, 1);
+        set(45, 2);
+        set(53, 3);
+        step(encode_mvmva(1, 0, 0, i, 0));
+        equal("MVMVA translation", cop2(25), i < 2 ? i + 1 : 0);
+    }
+
+    fresh(); /* NCDS: the far colour wholly, then the near one */
+    set(45, 0x800);
+    set(6, 0x11000080);
+    set(53, 0x100);
+    command(0x13, 1, 1);
+    equal("NCDS IR0 0", cop2(25), 0x80 * 0x800 * 16 >> 12);
+    fresh();
+    set(45, 0x800);
+    set(6, 0x11000080);
+    set(53, 0x100);
+    set(8, 0x1000);
+    command(0x13, 1, 1);
+    equal("NCDS IR0 1000h", cop2(25), 0x100);
+    equal("NCDS colour", cop2(22), 0x11000010);
+    fresh(); /* interpolation limits as lm = 0 even with lm = 1, the end with lm */
+    set(9, 0x100);
+    set(8, 0x1000);
+    set(53, (uint32_t)-0x80);
+    command(0x11, 1, 1);
+    equal("INTPL MAC1", cop2(25), (uint32_t)-0x80);
+    equal("INTPL IR1", cop2(9), 0);
+    equal("INTPL FLAG", cop2(63), 0x81200000);
+    fresh(); /* CC, CDP and DCPL */
+    set(9, 0x1000);
+    set(48, 0x800);
+    set(6, 0x40);
+    command(0x1C, 1, 0);
+    equal("CC MAC1", cop2(25), 0x40 * 0x800 * 16 >> 12);
+    fresh();
+    set(9, 0x1000);
+    set(48, 0x800);
+    set(6, 0x40);
+    set(8, 0x800);
+    command(0x14, 1, 0);
+    equal("CDP MAC1", cop2(25), 0x40 * 0x800 * 16 >> 13);
+    fresh();
+    set(9, 0x1000);
+    set(6, 0x40);
+    set(8, 0x800);
+    command(0x29, 1, 0);
+    equal("DCPL MAC1", cop2(25), 0x40 * 0x1000 * 16 >> 13);
+    fresh(); /* GPF */
+    set(8, 0x800);
+    set(9, (uint32_t)-3);
+    set(25, 1000);
+    command(0x3D, 1, 0);
+    equal("GPF MAC1 rounds down", cop2(25), (uint32_t)-2);
+    equal("GPF FLAG", cop2(63), 0x00200000);
+    fresh(); /* colours by byte */
+    set(6, 0x44332211);
+    set(9, 0x1000);
+    set(10, 0x1000);
+    set(11, 0x1000);
+    command(0x29, 1, 0);
+    equal("RGBC bytes", cop2(22), 0x44332211);
+    fresh(); /* NCT pushes three times */
+    set(40, 0x1000);
+    set(48, 0x1000);
+    set(0, 0x100);
+    set(2, 0x200);
+    set(4, 0x300);
+    command(0x20, 1, 0);
+    equal("NCT RGB0", cop2(20), 0x10);
+    equal("NCT RGB1", cop2(21), 0x20);
+    equal("NCT RGB2", cop2(22), 0x30);
+}
+
+/* ---- Demand 3 ------------------------------------------------------------------ */
+
+static uint64_t random_state = 1;
+
+static uint32_t random_below(uint32_t bound)
+{
+    random_state = random_state * 6364136223846793005 + 1442695040888963407;
+    return (uint32_t)((random_state >> 32) * bound >> 32);
+}
+
+static int64_t half(uint32_t w)
+{
+    return (int16_t)(uint16_t)w;
+}
+
+/* Row n of TR*1000h + RT*V, divided by 1000h and rounded down. */
+static int64_t rotated(const uint32_t *r, int n, int vertex)
+{
+    int64_t v[3] = {half(r[2 * vertex]), half(r[2 * vertex] >> 16), half(r[2 * vertex + 1])};
+    int64_t sum = (int64_t)(int32_t)r[37 + n] * 4096;
+    int i;
+
+    for (i = 0; i < 3; i++)
+        sum += half(r[32 + (3 * n + i) / 2] >> 16 * ((3 * n + i) % 2)) * v[i];
+    return sum >> 12;
+}
+
+static bool within(int64_t z, int64_t screen, int64_t screen_offset, int64_t h, int64_t x)
+{
+    int64_t difference = z * (65536 * screen - screen_offset) - 65536 * h * x;
+
+    return difference <= 81920 * z && difference >= -81920 * z;
+}
+
+/* 01's whole-number form of demand 3 on vertices in front of the camera, RTPS and RTPT in turn. */
+static void demand_3(void)
+{
+    unsigned i, n, clear = 0, kept = 0;
+
+    for (i = 0; i < 300000; i++) {
+        struct model before = {0}, after;
+        bool triple = i & 1;
+
+        for (n = 0; n < 5; n++)
+            before.cop2[32 + n] = random_below(0x400) | random_below(0x400) << 16;
+        model_cop2_write(&before, 32, 0x1000 | random_below(0x100) << 16);
+        model_cop2_write(&before, 34, 0x1000 | random_below(0x100) << 16);
+        model_cop2_write(&before, 36, 0x1000);
+        for (n = 0; n < 6; n++)
+            model_cop2_write(&before, n, random_below(0x800) | random_below(0x800) << 16);
+        model_cop2_write(&before, 37, random_below(400) - 200);
+        model_cop2_write(&before, 38, random_below(400) - 200);
+        model_cop2_write(&before, 39, random_below(0xF000));
+        model_cop2_write(&before, 56, random_below(600) << 16 | random_below(65536));
+        model_cop2_write(&before, 57, random_below(400) << 16 | random_below(65536));
+        model_cop2_write(&before, 58, random_below(i % 3 ? 2000 : 65536));
+        after = before;
+        model_command(&after, encode_command(triple ? 0x30 : 0x01, 1, i >> 1 & 1));
+        if (after.cop2[63] >> 31)
+            continue;
+        clear++;
+        bool holds = true;
+        for (n = 0; n < (triple ? 3 : 1); n++) {
+            uint32_t sxy = after.cop2[triple ? 12 + n : 14];
+            int64_t x = rotated(before.cop2, 0, (int)n), y = rotated(before.cop2, 1, (int)n);
+            int64_t z = rotated(before.cop2, 2, (int)n), h = before.cop2[58] & 0xFFFF;
+
+            holds &= z >= 1 && within(z, half(sxy), (int32_t)before.cop2[56], h, x) &&
+                     within(z, half(sxy >> 16), (int32_t)before.cop2[57], h, y);
+        }
+        kept += holds;
+    }
+    equal("demand 3", kept, clear);
+    equal("demand 3 met often", clear > 50000, true);
+
+    fresh(); /* the worst case: D = -81918.749996 * Z */
+    set(37, (uint32_t)-32768);
+    set(39, 65535);
+    set(58, 32768);
+    set(56, 1073840127);
+    command(0x01, 1, 0);
+    equal("demand 3 worst SX", cop2(14), 0);
+    equal("demand 3 worst FLAG", cop2(63), 0x00400000);
+}
+
+/* ---- The disassembler -------------------------------------------------------- */
+
+static void text(uint32_t instruction, const char *expected)
+{
+    char out[80];
+
+    disassemble(instruction, 0x80000100, out, sizeof out);
+    equal_text(out, expected);
+}
+
+static void disassembler(void)
+{
+    char small[6];
+
+    text(0, "nop");
+    text(encode_r(F_SLL, 2, 0, 4, 3), "sll v0, a0, 3");
+    text(encode_r(F_SRL, 2, 0, 4, 3), "srl v0, a0, 3");
+    text(encode_r(F_SRA, 2, 0, 4, 31), "sra v0, a0, 31");
+    text(encode_r(F_SLLV, 2, 5, 4, 0), "sllv v0, a0, a1");
+    text(encode_r(F_SRLV, 2, 5, 4, 0), "srlv v0, a0, a1");
+    text(encode_r(F_SRAV, 2, 5, 4, 0), "srav v0, a0, a1");
+    text(encode_r(F_JR, 0, 31, 0, 0), "jr ra");
+    text(encode_r(F_JALR, 31, 8, 0, 0), "jalr ra, t0");
+    text(0x0000004C, "syscall 0x1");
+    text(0x0000000D, "break 0x0");
+    text(encode_r(F_MFHI, 8, 0, 0, 0), "mfhi t0");
+    text(encode_r(F_MTHI, 0, 8, 0, 0), "mthi t0");
+    text(encode_r(F_MFLO, 8, 0, 0, 0), "mflo t0");
+    text(encode_r(F_MTLO, 0, 8, 0, 0), "mtlo t0");
+    text(encode_r(F_MULT, 0, 8, 9, 0), "mult t0, t1");
+    text(encode_r(F_MULTU, 0, 8, 9, 0), "multu t0, t1");
+    text(encode_r(F_DIV, 0, 8, 9, 0), "div t0, t1");
+    text(encode_r(F_DIVU, 0, 8, 9, 0), "divu t0, t1");
+    text(encode_r(F_ADD, 1, 2, 3, 0), "add at, v0, v1");
+    text(encode_r(F_ADDU, 1, 2, 3, 0), "addu at, v0, v1");
+    text(encode_r(F_SUB, 1, 2, 3, 0), "sub at, v0, v1");
+    text(encode_r(F_SUBU, 1, 2, 3, 0), "subu at, v0, v1");
+    text(encode_r(F_AND, 1, 2, 3, 0), "and at, v0, v1");
+    text(encode_r(F_OR, 1, 2, 3, 0), "or at, v0, v1");
+    text(encode_r(F_XOR, 1, 2, 3, 0), "xor at, v0, v1");
+    text(encode_r(F_NOR, 1, 2, 3, 0), "nor at, v0, v1");
+    text(encode_r(F_SLT, 1, 2, 3, 0), "slt at, v0, v1");
+    text(encode_r(F_SLTU, 1, 2, 3, 0), "sltu at, v0, v1");
+    text(encode_i(OP_BCOND, 0x00, 4, -1), "bltz a0, 0x80000100");
+    text(encode_i(OP_BCOND, 0x01, 4, 1), "bgez a0, 0x80000108");
+    text(encode_i(OP_BCOND, 0x10, 4, 1), "bltzal a0, 0x80000108");
+    text(encode_i(OP_BCOND, 0x11, 4, 1), "bgezal a0, 0x80000108");
+    text(encode_j(OP_J, 0x200), "j 0x80000200");
+    text(encode_j(OP_JAL, 0x200), "jal 0x80000200");
+    text(encode_i(OP_BEQ, 5, 4, 1), "beq a0, a1, 0x80000108");
+    text(encode_i(OP_BNE, 5, 4, 1), "bne a0, a1, 0x80000108");
+    text(encode_i(OP_BLEZ, 0, 4, 1), "blez a0, 0x80000108");
+    text(encode_i(OP_BGTZ, 0, 4, 1), "bgtz a0, 0x80000108");
+    text(encode_i(OP_ADDI, 4, 5, -1), "addi a0, a1, -1");
+    text(encode_i(OP_ADDIU, 29, 29, -32), "addiu sp, sp, -32");
+    text(encode_i(OP_SLTI, 4, 5, -1), "slti a0, a1, -1");
+    text(encode_i(OP_SLTIU, 4, 5, -1), "sltiu a0, a1, -1");
+    text(encode_i(OP_ANDI, 4, 5, 0xFFFF), "andi a0, a1, 0xffff");
+    text(encode_i(OP_ORI, 4, 5, 0xFFFF), "ori a0, a1, 0xffff");
+    text(encode_i(OP_XORI, 4, 5, 0xFFFF), "xori a0, a1, 0xffff");
+    text(encode_i(OP_LUI, 4, 0, 0x8000), "lui a0, 0x8000");
+    text(encode_i(OP_LB, 4, 5, -1), "lb a0, -1(a1)");
+    text(encode_i(OP_LH, 4, 5, -1), "lh a0, -1(a1)");
+    text(encode_i(OP_LWL, 4, 5, -1), "lwl a0, -1(a1)");
+    text(encode_i(OP_LW, 4, 5, -1), "lw a0, -1(a1)");
+    text(encode_i(OP_LBU, 4, 5, -1), "lbu a0, -1(a1)");
+    text(encode_i(OP_LHU, 4, 5, -1), "lhu a0, -1(a1)");
+    text(encode_i(OP_LWR, 4, 5, -1), "lwr a0, -1(a1)");
+    text(encode_i(OP_SB, 4, 5, -1), "sb a0, -1(a1)");
+    text(encode_i(OP_SH, 4, 5, -1), "sh a0, -1(a1)");
+    text(encode_i(OP_SWL, 4, 5, -1), "swl a0, -1(a1)");
+    text(encode_i(OP_SW, 4, 5, -1), "sw a0, -1(a1)");
+    text(encode_i(OP_SWR, 4, 5, -1), "swr a0, -1(a1)");
+    text(encode_move(0, 0, 26, 14), "mfc0 k0, EPC");
+    text(encode_move(0, 4, 26, 12), "mtc0 k0, SR");
+    text(encode_move(0, 0, 26, 3), "mfc0 k0, cop0r3");
+    text(RFE, "rfe");
+    text(encode_move(2, 0, 8, 14), "mfc2 t0, SXY2");
+    text(encode_move(2, 2, 8, 31), "cfc2 t0, FLAG");
+    text(encode_move(2, 4, 8, 15), "mtc2 t0, SXYP");
+    text(encode_move(2, 6, 8, 26), "ctc2 t0, H");
+    text(encode_i(OP_LWC2, 9, 4, 8), "lwc2 IR1, 8(a0)");
+    text(encode_i(OP_SWC2, 31, 4, 8), "swc2 LZCR, 8(a0)");
+    text(0x4A180001, "rtps sf=1 lm=0");
+    text(0x4A280030, "rtpt sf=1 lm=0");
+    text(encode_command(0x3F, 0, 1), "ncct sf=0 lm=1");
+    text(encode_mvmva(1, 2, 3, 1, 1), "mvmva sf=1 lm=1 mx=LCM v=IR cv=BK");
+    text(encode_mvmva(0, 3, 0, 2, 0), "mvmva sf=0 lm=0 mx=3 v=V0 cv=FC");
+    text(0x4A000000, "cop2 0x0000000 (unlisted command)");
+    text(0x49000000, ".word 0x49000000 (reserved COP2 form)");
+    text(0x42000001, ".word 0x42000001 (reserved COP0 form)");
+    text(0x44000000, ".word 0x44000000 (COP1 form)");
+    text(0xCC000000, ".word 0xcc000000 (COP3 form)");
+    text(0xC0000000, ".word 0xc0000000 (reserved)");
+    text(0x04020000, ".word 0x04020000 (reserved)");
+    text(0x00000001, ".word 0x00000001 (reserved)");
+    disassemble(encode_r(F_ADDU, 1, 2, 3, 0), 0, small, sizeof small);
+    equal_text(small, "addu ");
+    equal_text(gte_command_name(0x4A280030), "rtpt");
+    equal("unlisted has no name", gte_command_name(0x4A000000) == NULL, true);
+    equal_text(general_register_name(31), "ra");
+}
+
+int main(void)
+{
+    figures();
+    refusals();
+    unlisted_commands();
+    load_delay();
+    arithmetic();
+    jumps();
+    decoding();
+    exceptions();
+    coprocessor0();
+    memory();
+    cop2_registers();
+    gte();
+    demand_3();
+    disassembler();
+    printf("%d passed, %d failed\n", passed, failed);
+    return failed != 0;
+}

@@ -1,0 +1,80 @@
+/* Fliskadee: a software R3000A with its geometry unit (GTE), proved to do what its papers say.
+ *
+ * Link target/staticlib/libfliskadee.a, which "rt staticlib fliskadee" makes. The library keeps no state of its own, allocates
+ * nothing and calls nothing: everything is in the buffers that the caller lends. Calls on different buffers may run at the same
+ * time.
+ *
+ * What the caller must see to: a buffer has the length that is passed, may be read and (unless it is const) written, and no
+ * two buffers of one call overlap. Nothing else is required: every content, every length and every count is answered. */
+#ifndef FLISKADEE_H
+#define FLISKADEE_H
+
+#include <stddef.h>
+#include <stdint.h>
+
+#ifdef __cplusplus
+extern "C" {
+#endif
+
+/* ---- The machine image: 108 little-endian words, 432 bytes
+ *
+ *    0..31  general registers       36  register that awaits a load (0: none)   41  EPC
+ *       32  HI                      37  its value                               42  BADV
+ *       33  LO                      38  1 in a delay slot, else 0               43  zero
+ *       34  PC                      39  SR                                      44..107  COP2 registers 0..63
+ *       35  next PC                 40  CAUSE
+ *
+ * It is well formed when: word 0 is 0; word 36 is at most 31; word 37 is 0 if word 36 is; word 38 is at most 1; word 43 is 0; SR
+ * has only bits of F24FFF3Fh; CAUSE has only bits of B000037Ch; and every COP2 word equals what a read of that register returns
+ * (15 reads as 14, 28 and 29 as the packed IR1..3, 31 as the leading bits of 30, 63 with its bit 31, the 16-bit registers
+ * extended). A fresh machine is not all zeros: COP2 register 31 is 32. */
+#define FLISKADEE_IMAGE_WORDS 108
+#define FLISKADEE_IMAGE_BYTES 432
+#define FLISKADEE_COP2_WORD 44
+
+/* ---- The answer of fliskadee_run and fliskadee_find_flag: code * 1,048,576 + steps completed */
+#define FLISKADEE_CODE(answer) ((unsigned)((answer) >> 20))
+#define FLISKADEE_STEPS(answer) ((uint32_t)((answer) & 0xFFFFF))
+
+enum fliskadee_code {
+    FLISKADEE_DONE = 0,       /* all steps done: image and RAM are as after them */
+    FLISKADEE_IMAGE_LENGTH = 1, /* the image is not 432 bytes; nothing changed */
+    FLISKADEE_IMAGE_FORM = 2,   /* the image is not well formed; nothing changed */
+    FLISKADEE_RAM_LENGTH = 3,   /* the RAM's length is no multiple of 4 in 4..2,097,152; nothing changed */
+    FLISKADEE_COUNT = 4,        /* the count is above 1,000,000; nothing changed */
+    FLISKADEE_UNLISTED = 5,     /* steps remain, and the next instruction is a usable COP2 command that is not one of the
+                                   22: image and RAM are as just before it */
+    FLISKADEE_FLAG_UP = 16      /* fliskadee_find_flag only: a bit of the mask came up in the last step that was completed */
+};
+
+#define FLISKADEE_MOST_STEPS 1000000
+
+/* Carries out at most count steps of the machine that image and RAM describe, and leaves both as they are afterwards.
+ * Codes 1 to 4 are tested in this order. An exception is a completed step. Count 0 answers 0 and changes nothing.
+ * An image that a call has left is accepted by the next call; a steps and then b steps leave what a + b steps leave. */
+uint64_t fliskadee_run(uint8_t *image, size_t image_length, uint8_t *ram, size_t ram_length, uint64_t count);
+
+/* As fliskadee_run, but ends after the first step that leaves a bit of mask set in FLAG (COP2 register 63) where none of the
+ * mask's bits was set before that step: the code is then 16, and the step is counted. To have the machine just before that
+ * step, run one step fewer from the same start. */
+uint64_t fliskadee_find_flag(uint8_t *image, size_t image_length, uint8_t *ram, size_t ram_length, uint64_t count, uint32_t mask);
+
+/* The RAM window: which part of the lent RAM a virtual address and a length name. The answer is the place of the part's first
+ * byte in ram times 2^32, plus the part's length. The length is 0 exactly when the length asked for is 0, the RAM's length is
+ * one that fliskadee_run refuses, or some byte of the range is not in RAM (through the segments 000, 100 or 101); else it is the
+ * length asked for. RAM is not read. */
+uint64_t fliskadee_window(const uint8_t *ram, size_t ram_length, uint32_t address, uint64_t length);
+
+/* The same as a pointer into ram itself, with no copy: NULL where the part is empty. */
+static inline uint8_t *fliskadee_window_bytes(uint8_t *ram, size_t ram_length, uint32_t address, uint64_t length)
+{
+    uint64_t part = fliskadee_window(ram, ram_length, address, length);
+
+    return (uint32_t)part != 0 ? ram + (part >> 32) : NULL;
+}
+
+#ifdef __cplusplus
+}
+#endif
+
+#endif
