@@ -1,0 +1,456 @@
+// Runs worked examples of the GTE, of steps, of runs and of windows through the code, and compares.
+// Standard input has lines of 20 bytes: a letter, and two numbers of 8 hexadecimal digits (or, after `n`, a name).
+//   n  a case begins: registers of zeros; an image that is fresh (zeros, but next PC 4 and COP2 register 31, which is 32), of 432
+//      bytes; RAM of zeros, 4096 bytes
+//   g  a COP2 register, and the word to write       w  a word of the image, and its value     s  a run: the count's low word
+//   c  a command word, and its outcome (0 done,     m  an address in RAM, and its word        f  a search: the count, the mask
+//      1 not listed)                                i  the image's length                     v  a window: the address, the length
+//   x  a COP2 register, and what a read returns     l  the RAM's length                       a  what the last of these answered:
+//                                                   h  the count's high word                     high word, low word
+//   r  a word of the image, and what it is to be    q  an address in RAM, and what its word is to be
+//   k  the last run or search has changed no byte of image and RAM
+ghost use Prim.Native.Nat.{_<_};
+use gte::command::Outcome;
+
+// What has been counted, and whether the case that runs has had no difference so far.
+struct Tally {
+    cases: u64,
+    values: u64,
+    differ: u64,
+    clean: bool,
+}
+
+// What goes by value of a case. before: a digest of image and RAM before the last run or search.
+struct Case {
+    image_length: usize,
+    ram_length: usize,
+    high: u32,
+    answer: u64,
+    before: u64,
+    tally: Tally,
+}
+
+// One more, up to a million.
+fn more(n: u64) -> u64 {
+    if n < 1_000_000 { n + 1 } else { n }
+}
+
+// ---- lines
+
+fn byte_at(buf: &[u8; 65520], i: usize) -> u8 {
+    buf[i % 65520]
+}
+
+fn wide(b: u8) -> u32 {
+    b as u32
+}
+
+// The value of a digit; 0 for any other byte.
+fn digit(b: u8) -> u32
+    ensures { λ r. ⌜ r < 16 ⌝ }
+{
+    let d = wide(b);
+    if d < 48 {
+        0
+    } else if d < 58 {
+        d - 48
+    } else if d < 97 {
+        0
+    } else if d < 103 {
+        d - 87
+    } else {
+        0
+    }
+}
+
+// The number whose eight digits begin at `at`.
+fn number_at(buf: &[u8; 65520], at: usize) -> u32 {
+    let start = at % 65520;
+    let mut x: u32 = 0;
+    let mut i: usize = 0;
+    while i < 8 {
+        x = x % 0x1000_0000 * 16 + digit(byte_at(buf, start + i));
+        i += 1;
+    }
+    x
+}
+
+// The 17 bytes from `start` go out, where there are so many.
+fn print_name(s: &[u8], start: usize) {
+    let n = s.len();
+    if n < 17 {
+        return;
+    }
+    if n - 17 < start {
+        return;
+    }
+    let end = start + 17;
+    io::write_all(1, &s[start..end]);
+}
+
+// The end of a case's line.
+fn end_case(t: Tally) {
+    if t.cases == 0 {
+        return;
+    }
+    if t.clean {
+        io::write_all(1, b" ok");
+    }
+    io::write_all(1, b"\n");
+}
+
+// A line about a difference: what was looked at, what was found, what was expected.
+fn print_difference(what: u32, found: u64, expected: u64) {
+    io::write_all(1, b"\n  ");
+    io::print_hex(1, what as u64, 8);
+    io::write_all(1, b": ");
+    io::print_hex(1, found, 16);
+    io::write_all(1, b", expected ");
+    io::print_hex(1, expected, 16);
+}
+
+// One more value is compared.
+fn compare(t: Tally, what: u32, found: u64, expected: u64) -> Tally {
+    if found == expected {
+        return Tally {
+            cases: t.cases,
+            values: more(t.values),
+            differ: t.differ,
+            clean: t.clean,
+        };
+    }
+    print_difference(what, found, expected);
+    Tally {
+        cases: t.cases,
+        values: more(t.values),
+        differ: more(t.differ),
+        clean: false,
+    }
+}
+
+// ---- words in bytes that may be too few
+
+fn put(m: &mut [u8], at: usize, v: u32) {
+    let n = m.len();
+    if n < 4 {
+        return;
+    }
+    if n - 4 < at {
+        return;
+    }
+    words::bytes::put_word(m, at, v);
+}
+
+fn word(m: &[u8], at: usize) -> u32 {
+    let n = m.len();
+    if n < 4 {
+        return 0;
+    }
+    if n - 4 < at {
+        return 0;
+    }
+    words::bytes::word_at(m, at)
+}
+
+// A number that a changed byte changes: each byte has its own weight among the last ones, and all of them are mixed in.
+fn digest(m: &[u8], first: u64) -> u64 {
+    let n = m.len();
+    let mut d = first;
+    let mut i: usize = 0;
+    while i < n {
+        d = mix(d, wide(m[i]));
+        i += 1;
+    }
+    d
+}
+
+fn mix(d: u64, b: u32) -> u64 {
+    (d % 0x1_0000_0000_0000) * 257 + d / 0x1_0000_0000_0000 + b as u64 + 1
+}
+
+// ---- what a line asks for
+
+fn join(high: u32, low: u32) -> u64 {
+    (high as u64) * 0x1_0000_0000 + low as u64
+}
+
+// A run over the first bytes of image and RAM; all ones where there are not so many.
+fn run(image: &mut [u8], ram: &mut [u8], image_length: usize, ram_length: usize, count: u64) -> u64 {
+    if image.len() < image_length {
+        return 0xffff_ffff_ffff_ffff;
+    }
+    if ram.len() < ram_length {
+        return 0xffff_ffff_ffff_ffff;
+    }
+    fliskadee::fliskadee_run(&mut image[0..image_length], &mut ram[0..ram_length], count)
+}
+
+// A search, in the same way.
+fn find(
+    image: &mut [u8],
+    ram: &mut [u8],
+    image_length: usize,
+    ram_length: usize,
+    count: u64,
+    mask: u32,
+) -> u64 {
+    if image.len() < image_length {
+        return 0xffff_ffff_ffff_ffff;
+    }
+    if ram.len() < ram_length {
+        return 0xffff_ffff_ffff_ffff;
+    }
+    fliskadee::fliskadee_find_flag(
+        &mut image[0..image_length],
+        &mut ram[0..ram_length],
+        count,
+        mask,
+    )
+}
+
+fn window(ram: &[u8], ram_length: usize, address: u32, n: u32) -> u64 {
+    if ram.len() < ram_length {
+        return 0xffff_ffff_ffff_ffff;
+    }
+    fliskadee::fliskadee_window(&ram[0..ram_length], address, n as u64)
+}
+
+// A command is carried out: 0, or 1 where it is not listed.
+fn outcome(g: &mut [u32; 64], word: u32) -> u64 {
+    match gte::command::command(g, word) {
+        Outcome::Done => 0,
+        Outcome::Unlisted => 1,
+    }
+}
+
+// ---- the case with one thing changed
+
+fn with_image_length(x: Case, n: u32) -> Case {
+    let mut y = x;
+    y.image_length = n as usize;
+    y
+}
+
+fn with_ram_length(x: Case, n: u32) -> Case {
+    let mut y = x;
+    y.ram_length = n as usize;
+    y
+}
+
+fn with_high(x: Case, n: u32) -> Case {
+    let mut y = x;
+    y.high = n;
+    y
+}
+
+fn with_answer(x: Case, n: u64) -> Case {
+    let mut y = x;
+    y.answer = n;
+    y
+}
+
+fn counted(x: Case, t: Tally) -> Case {
+    Case {
+        image_length: x.image_length,
+        ram_length: x.ram_length,
+        high: x.high,
+        answer: x.answer,
+        before: x.before,
+        tally: t,
+    }
+}
+
+// A case begins.
+fn begin_case(
+    g: &mut [u32; 64],
+    image: &mut [u8; 512],
+    ram: &mut [u8; 2097160],
+    t: Tally,
+) -> Case {
+    *g = [0; 64];
+    *image = [0; 512];
+    *ram = [0; 2097160];
+    put(image, 140, 4);
+    put(image, 300, 32);
+    Case {
+        image_length: 432,
+        ram_length: 4096,
+        high: 0,
+        answer: 0,
+        before: 0,
+        tally: Tally {
+            cases: more(t.cases),
+            values: t.values,
+            differ: t.differ,
+            clean: true,
+        },
+    }
+}
+
+// A line that reads or writes, or asks for a run; one that compares is left to `check_line`.
+fn follow(
+    x: Case,
+    g: &mut [u32; 64],
+    image: &mut [u8; 512],
+    ram: &mut [u8; 2097160],
+    letter: u8,
+    a: u32,
+    b: u32,
+) -> Case {
+    match letter {
+        b'g' => {
+            gte_registers::register::write(g, a as usize, b);
+            x
+        }
+        b'w' => {
+            put(image, (a as usize) * 4, b);
+            x
+        }
+        b'm' => {
+            put(ram, a as usize, b);
+            x
+        }
+        b'i' => with_image_length(x, a),
+        b'l' => with_ram_length(x, a),
+        b'h' => with_high(x, a),
+        b's' => with_answer(x, run(image, ram, x.image_length, x.ram_length, join(x.high, a))),
+        b'f' => with_answer(x, find(image, ram, x.image_length, x.ram_length, join(x.high, a), b)),
+        b'v' => with_answer(x, window(ram, x.ram_length, a, b)),
+        b'c' => {
+            let t = x.tally;
+            counted(x, compare(t, a, outcome(g, a), b as u64))
+        }
+        _ => check_line(x, g, image, ram, letter, a, b),
+    }
+}
+
+// A line that compares. A letter that is none of them counts as a difference.
+fn check_line(
+    x: Case,
+    g: &[u32; 64],
+    image: &[u8; 512],
+    ram: &[u8; 2097160],
+    letter: u8,
+    a: u32,
+    b: u32,
+) -> Case {
+    let t = x.tally;
+    match letter {
+        b'x' => counted(x, compare(t, a, gte_registers::register::read(g, a as usize) as u64, b as u64)),
+        b'a' => counted(x, compare(t, 0, x.answer, join(a, b))),
+        b'r' => counted(x, compare(t, a, word(image, (a as usize) * 4) as u64, b as u64)),
+        b'q' => counted(x, compare(t, a, word(ram, a as usize) as u64, b as u64)),
+        _ => counted(x, compare(t, wide(letter), 0, 1)),
+    }
+}
+
+fn with_before(x: Case, n: u64) -> Case {
+    let mut y = x;
+    y.before = n;
+    y
+}
+
+// What stands in image and RAM is noted before a run or a search, for `k`.
+fn noted(x: Case, letter: u8, image: &[u8; 512], ram: &[u8; 2097160]) -> Case {
+    match letter {
+        b's' => with_before(x, digest(ram, digest(image, 0))),
+        b'f' => with_before(x, digest(ram, digest(image, 0))),
+        _ => x,
+    }
+}
+
+// Line k is carried out.
+fn line(
+    x: Case,
+    g: &mut [u32; 64],
+    image: &mut [u8; 512],
+    ram: &mut [u8; 2097160],
+    buf: &[u8; 65520],
+    k: usize,
+) -> Case {
+    let at = k % 3276 * 20;
+    let letter = byte_at(buf, at);
+    let a = number_at(buf, at + 2);
+    let b = number_at(buf, at + 11);
+    let t = x.tally;
+    match letter {
+        b'n' => {
+            end_case(t);
+            print_name(buf, at + 2);
+            begin_case(g, image, ram, t)
+        }
+        b'k' => counted(x, compare(t, 0, digest(ram, digest(image, 0)), x.before)),
+        _ => follow(noted(x, letter, image, ram), g, image, ram, letter, a, b),
+    }
+}
+
+// The lines of a block are carried out in turn.
+fn block(
+    first: Case,
+    g: &mut [u32; 64],
+    image: &mut [u8; 512],
+    ram: &mut [u8; 2097160],
+    buf: &[u8; 65520],
+    lines: usize,
+) -> Case {
+    let mut x = first;
+    let mut k: usize = 0;
+    while k < lines {
+        x = line(x, g, image, ram, buf, k);
+        k += 1;
+    }
+    x
+}
+
+// The last line: how many cases, how many values, how many differ.
+fn print_tally(t: Tally) {
+    io::print_decimal(1, t.cases);
+    io::write_all(1, b" cases, ");
+    io::print_decimal(1, t.values);
+    io::write_all(1, b" values compared, ");
+    io::print_decimal(1, t.differ);
+    io::write_all(1, b" differ\n");
+}
+
+// Before the first case.
+fn nothing() -> Case {
+    Case {
+        image_length: 0,
+        ram_length: 0,
+        high: 0,
+        answer: 0,
+        before: 0,
+        tally: Tally {
+            cases: 0,
+            values: 0,
+            differ: 0,
+            clean: true,
+        },
+    }
+}
+
+// Reads block after block, at most 16 of them, carries out their lines and counts.
+fn follow_all(ram: &mut [u8; 2097160]) -> Tally {
+    let mut g = [0u32; 64];
+    let mut image = [0u8; 512];
+    let mut buf = [0u8; 65520];
+    let mut x = nothing();
+    let mut i: usize = 0;
+    while i < 16 {
+        let n = io::read_full(0, &mut buf);
+        x = block(x, &mut g, &mut image, ram, &buf, n / 20);
+        if n % 20 != 0 {
+            io::write_all(1, b"\nthe input ends inside a line");
+        }
+        i += 1;
+    }
+    let t = x.tally;
+    t
+}
+
+fn main() {
+    let mut ram = [0u8; 2097160];
+    let t = follow_all(&mut ram);
+    end_case(t);
+    print_tally(t);
+}
