@@ -224,6 +224,10 @@ pub fn decode(word: u32) -> Op
 pub fn owner_of(word: u32) -> Owner
     ensures { λ r. ⌜ r ≡ ownerOf word ⌝ }
 {
+    // Bit 30 is set in every coprocessor's word: most words need no more than this test.
+    if word / 0x4000_0000 % 2 == 0 {
+        return Owner::Processor;
+    }
     match word / 0x400_0000 {
         0x10 => Owner::Coprocessor0,
         0x11 => Owner::Coprocessor1,

@@ -6,7 +6,7 @@ use mathlib.Core.Path.{_≡_, refl}
 use native.Mathlib.Omega.{arith}
 use lib.Dec.{eqb, ltb, leb}
 use lib.ListN.{length}
-use borrow.Author.Tests.{eqb-true, ltb-true}
+use borrow.Author.Tests.{eqb-true, eqb-false, ltb-true, leb-true, eq-eqb, lt-ltb}
 use Rattle.memory.specs.Addresses.{ramLength, RamOk, mapped, segmentOf, placeOf}
 use Rattle.memory.specs.Access.{loadAlign, storeAlign}
 use Rattle.memory.specs.declared.Phys.{Phys}
@@ -95,3 +95,49 @@ last-of-four n h a b c = omega arith
 -- code adds literals, lists count by `suc`
 pub at-2 : (a : ℕ) → a + 2 ≡ suc (suc a)
 at-2 a = omega arith
+
+-- ---- one number that is a word's place in RAM, or above every length of RAM
+abbrev pub index : ℕ → ℕ
+index a = a % 0x8000_0000 / 4 + a % 0x8000_0000 % 4 * 0x4000_0000
+
+short : (m : List ℕ) → RamOk m → length m ≤ 2097152
+unfolding ramLength
+short m ok = leb-true (length m) 2097152 (and-eq-true-iff (leb 4 (length m)) _ .0 (and-eq-true-iff (eqb (length m % 4) 0) _ .0 ok .1) .1)
+
+in-kernel : (a : ℕ) (zero : Bool) → eqb (a / 0x2000_0000) 0 ≡ zero → a < 0x1_0000_0000 → a / 0x2000_0000 % 4 ≡ 0 → mapped a ≡ true
+unfolding mapped
+in-kernel a true e l h = rw e
+in-kernel a false e l h =
+    let n = eqb-false (a / 0x2000_0000) 0 e in
+    let four : a / 0x2000_0000 ≡ 4 = omega arith in
+    rw four
+
+whole : (x n : ℕ) → x / 4 + x % 4 * 0x4000_0000 < n / 4 → n ≤ 2097152 → x % 4 ≡ 0
+whole x n h l = omega arith
+
+inside : (x n : ℕ) → x / 4 + x % 4 * 0x4000_0000 < n / 4 → x % 4 ≡ 0 → x < n
+inside x n h d = omega arith
+
+back : (x : ℕ) → x % 4 ≡ 0 → (x / 4 + x % 4 * 0x4000_0000) * 4 ≡ x
+back x d = omega arith
+
+by-four : (a : ℕ) → a % 0x8000_0000 % 4 ≡ 0 → a % 4 ≡ 0
+by-four a d = omega arith
+
+top : (a : ℕ) → a % 0x8000_0000 < 2097152 → a / 0x2000_0000 % 4 ≡ 0
+top a l = omega arith
+
+low : (a : ℕ) → a % 0x8000_0000 < 2097152 → a % 0x2000_0000 ≡ a % 0x8000_0000
+low a l = omega arith
+
+less : (x n k : ℕ) → x < n → n ≤ k → x < k
+less x n k h l = omega arith
+
+pub direct : (m : List ℕ) (a : ℕ) → RamOk m → a < 0x1_0000_0000 → index a < length m / 4 → placeOf a 4 false (length m) ≡ At (record { 0 = index a * 4 })
+unfolding placeOf segmentOf
+direct m a ok l h =
+    let n = short m ok in
+    let d = whole (a % 0x8000_0000) (length m) h n in
+    let i = inside (a % 0x8000_0000) (length m) h d in
+    let u = less (a % 0x8000_0000) (length m) 2097152 i n in
+    rw (eq-eqb _ _ (by-four a d), in-kernel a (eqb (a / 0x2000_0000) 0) refl l (top a u), low a u, lt-ltb _ _ i, back (a % 0x8000_0000) d)

@@ -202,7 +202,8 @@ fn read(k: LoadKind, ram: &[u8], at: usize, old: u32) -> u32
     }
 }
 
-pub fn load(k: LoadKind, ram: &[u8], v: Virt, user: bool, old: u32) -> Loaded
+// The tests of an address in their order, for any kind.
+fn load_at(k: LoadKind, ram: &[u8], v: Virt, user: bool, old: u32) -> Loaded
     requires { ⌜ RamOk (now ram) ⌝ }
     ensures { λ r. ⌜ r ≡ loadOf k (now (ram .entry)) old (placeOf (v .0) (loadAlign k) user (length (now (ram .entry)))) ⌝ }
 {
@@ -213,6 +214,41 @@ pub fn load(k: LoadKind, ram: &[u8], v: Virt, user: bool, old: u32) -> Loaded
         }
         Place::Bus => Loaded::Bus,
         Place::Address => Loaded::Address,
+    }
+}
+
+// The word of an address among RAM's words, in one number: an address that is not aligned, or has one of the bits 29 and
+// 30 set, gives a number that is above every length.
+fn word_index(a: u32) -> u32
+    ensures is { λ r. ⌜ r ≡ a % 0x8000_0000 / 4 + a % 0x8000_0000 % 4 * 0x4000_0000 ⌝ }
+    ensures word { λ _. ⌜ a < 0x1_0000_0000 ⌝ }
+{
+    let x = a % 0x8000_0000;
+    x / 4 + x % 4 * 0x4000_0000
+}
+
+// A word, which is fetched at every step: one test finds it in RAM in kernel mode.
+fn load_word(ram: &[u8], v: Virt, user: bool, old: u32) -> Loaded
+    requires { ⌜ RamOk (now ram) ⌝ }
+    ensures { λ r. ⌜ r ≡ loadOf LoadKind.Word (now (ram .entry)) old (placeOf (v .0) 4 user (length (now (ram .entry)))) ⌝ }
+{
+    if user {
+        return load_at(LoadKind::Word, ram, v, user, old);
+    }
+    let k = word_index(v.0) as usize;
+    if k < ram.len() / 4 {
+        return Loaded::Value(word_at(ram, k * 4));
+    }
+    load_at(LoadKind::Word, ram, v, user, old)
+}
+
+pub fn load(k: LoadKind, ram: &[u8], v: Virt, user: bool, old: u32) -> Loaded
+    requires { ⌜ RamOk (now ram) ⌝ }
+    ensures { λ r. ⌜ r ≡ loadOf k (now (ram .entry)) old (placeOf (v .0) (loadAlign k) user (length (now (ram .entry)))) ⌝ }
+{
+    match k {
+        LoadKind::Word => load_word(ram, v, user, old),
+        _ => load_at(k, ram, v, user, old),
     }
 }
 

@@ -157,7 +157,12 @@ fn issue(word: u32, c: Control, r: &mut [u32; 32], g: &mut [u32; 64], ram: &mut 
     if usable(o, s) {
         let rs = (word / 0x20_0000 % 32) as usize;
         let rt = (word / 0x1_0000 % 32) as usize;
-        let e = execute(decode(word), fields_of(word), r[rs], r[rt], f.next, h);
+        let t = fields_of(word);
+        let a = r[rs];
+        let b = r[rt];
+        // Last, so that the compiler joins its choice with that of execute.
+        let op = decode(word);
+        let e = execute(op, t, a, b, f.next, h);
         perform(e, c, r, g, ram)
     } else {
         done(trap(c, r, 11, number(o)))

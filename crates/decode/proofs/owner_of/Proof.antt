@@ -1,7 +1,8 @@
--- Each arm answers its row, and the rest is in no row.
+-- A word with bit 30 clear is in no row; else each arm answers its row, and the rest is in no row.
 use mathlib.Core.Path.{sym}
 use Rattle.tables.specs.Table.{NoneOf, lookup-none}
 use Rattle.decode.specs.Decode.{owners, ownerOf}
+use Rattle.decode.proofs.Owners.{plain}
 use Rattle.decode.proofs.owner_of.Statement.{statement}
 use Rattle.decode.proofs.owner_of.Tie as tie
 
@@ -10,6 +11,7 @@ unfolding owners ownerOf NoneOf
 owner-of-spec =
     tie.close
     (tie.spec
+    (λ c. sym (plain _ (c .if1 .taken)))
     (λ c. rw (c .match .keys1))
     (λ c. rw (c .match .keys2))
     (λ c. rw (c .match .keys3))
