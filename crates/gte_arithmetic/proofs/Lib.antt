@@ -1,2 +1,3 @@
 pub mod Flags
 mod Levels
+pub mod Plain

@@ -1,6 +1,7 @@
 // One function for each kind of check. Each gives the limited value and the bit that it sets, which the caller names
 // where a command uses one kind for several registers.
 ghost use mathlib.Core.Path.{_≡_};
+ghost use mathlib.Core.Bool.{not};
 ghost use Prim.Native.Nat.{_*_, _^_, _<_};
 ghost use lib.IntN.{pos, negsuc};
 ghost use lib.Signed.{shrZ};
@@ -47,6 +48,19 @@ fn limit(lo: i64, hi: i64, x: i64, bit: u32) -> Limited
     }
 }
 
+// x lies in lo..hi.
+pub fn within(lo: i64, hi: i64, x: i64) -> bool
+    ensures { λ r. ⌜ r ≡ not (outside lo hi x) ⌝ }
+{
+    if x < lo {
+        false
+    } else if hi < x {
+        false
+    } else {
+        true
+    }
+}
+
 // The 44-bit test of a whole sum, and its wrap.
 pub fn wrap_44(x: i64, over: u32, under: u32) -> Limited
     requires { ⌜ Mag x (3 * 2 ^ 43) ⌝ }
@@ -67,7 +81,7 @@ pub fn wrap_44(x: i64, over: u32, under: u32) -> Limited
     }
 }
 
-fn shift(x: i64, sf: bool) -> i64
+pub fn shift(x: i64, sf: bool) -> i64
     ensures { λ r. ⌜ r ≡ shrZ x (scale sf) ⌝ }
 {
     if sf { shift_12(x) } else { x }
@@ -106,7 +120,7 @@ pub fn store_mac0(x: i64) -> Stored
     }
 }
 
-fn lowest_ir(lm: bool) -> i64
+pub fn lowest_ir(lm: bool) -> i64
     ensures { λ r. ⌜ r ≡ lowest lm ⌝ }
 {
     if lm { 0 } else { -0x8000 }

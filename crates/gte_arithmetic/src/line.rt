@@ -5,7 +5,10 @@ ghost use Rattle.integers.specs.Parts.{Mag};
 ghost use Rattle.gte_arithmetic.specs.Sums.{Bounded};
 ghost use Rattle.gte_arithmetic.specs.Line.{cellOf, lineOf};
 use crate::limit::limit_ir;
+use crate::limit::lowest_ir;
+use crate::limit::shift;
 use crate::limit::store_mac;
+use crate::limit::within;
 use crate::sums::Long;
 use crate::sums::Vector;
 use crate::sums::Wide;
@@ -22,8 +25,8 @@ pub struct Line {
     pub flag: u32,
 }
 
-// One of the three.
-pub fn finish_one(x: i64, sf: bool, lm: bool, over: u32, under: u32, bit: u32) -> Cell
+// One of the three, with each of its tests.
+fn finish_tested(x: i64, sf: bool, lm: bool, over: u32, under: u32, bit: u32) -> Cell
     requires { ⌜ Mag x (3 * 2 ^ 43) ⌝ }
     ensures { λ r. ⌜ r ≡ cellOf sf lm over under bit x ⌝ }
 {
@@ -34,6 +37,23 @@ pub fn finish_one(x: i64, sf: bool, lm: bool, over: u32, under: u32, bit: u32) -
         ir: i.v,
         flag: m.flag | i.flag,
     }
+}
+
+// One of the three. Most values are in range, where one test finds that no bit is set.
+pub fn finish_one(x: i64, sf: bool, lm: bool, over: u32, under: u32, bit: u32) -> Cell
+    requires { ⌜ Mag x (3 * 2 ^ 43) ⌝ }
+    ensures { λ r. ⌜ r ≡ cellOf sf lm over under bit x ⌝ }
+{
+    let m = shift(x, sf);
+    let low = lowest_ir(lm);
+    if within(low, 0x7fff, m) {
+        return Cell {
+            mac: m as i32,
+            ir: m as i16,
+            flag: 0,
+        };
+    }
+    finish_tested(x, sf, lm, over, under, bit)
 }
 
 pub fn finish(s: Wide, sf: bool, lm: bool) -> Line
