@@ -19,6 +19,7 @@ use gte_arithmetic::limit::limit_factor;
 use gte_arithmetic::limit::limit_ir;
 use gte_arithmetic::limit::limit_screen;
 use gte_arithmetic::limit::store_mac0;
+use gte_arithmetic::limit::within;
 use gte_arithmetic::limit::wrap_44;
 use gte_arithmetic::line::finish_one;
 use gte_arithmetic::sums::Long;
@@ -87,12 +88,10 @@ fn exact(q: u32, k: i16, b: i32) -> i64
     (q as i64) * (k as i64) + (b as i64)
 }
 
-// Line 5 or 6: MAC0 is tested, and the coordinate limited from its exact value.
-fn coordinate(q: u32, ir: i16, offset: i32, bit: u32) -> Short
-    requires { ⌜ q < 2 ^ 17 ⌝ }
-    ensures { λ r. ⌜ r ≡ record { v = screenOf (shrZ (exactOf q ir offset) 65536); flag = or (mac0Flag (exactOf q ir offset)) (raise (outside (negsuc 0x3ff) (pos 0x3ff) (shrZ (exactOf q ir offset) 65536)) bit) } ⌝ }
+// Line 5 or 6, with each of its tests: MAC0 is tested, and the coordinate limited from its exact value.
+fn coordinate_tested(x: i64, bit: u32) -> Short
+    ensures { λ r. ⌜ r ≡ record { v = screenOf (shrZ x 65536); flag = or (mac0Flag x) (raise (outside (negsuc 0x3ff) (pos 0x3ff) (shrZ x 65536)) bit) } ⌝ }
 {
-    let x = exact(q, ir, offset);
     let m = store_mac0(x);
     let s = limit_screen(shift_16(x), bit);
     Short {
@@ -101,12 +100,26 @@ fn coordinate(q: u32, ir: i16, offset: i32, bit: u32) -> Short
     }
 }
 
-// Line 7: the MAC0 that stays, and IR0.
-fn cue_factor(q: u32, dqa: i16, dqb: i32) -> Factor
+// Line 5 or 6. Most points lie on the screen, where one test finds that no bit is set.
+fn coordinate(q: u32, ir: i16, offset: i32, bit: u32) -> Short
     requires { ⌜ q < 2 ^ 17 ⌝ }
-    ensures { λ r. ⌜ r ≡ record { mac0 = wrap (2 ^ 31) (exactOf q dqa dqb); ir0 = factorOf (shrZ (exactOf q dqa dqb) 4096); flag = or (mac0Flag (exactOf q dqa dqb)) (raise (outside (pos 0) (pos 0x1000) (shrZ (exactOf q dqa dqb) 4096)) 0x1000) } ⌝ }
+    ensures { λ r. ⌜ r ≡ record { v = screenOf (shrZ (exactOf q ir offset) 65536); flag = or (mac0Flag (exactOf q ir offset)) (raise (outside (negsuc 0x3ff) (pos 0x3ff) (shrZ (exactOf q ir offset) 65536)) bit) } ⌝ }
 {
-    let x = exact(q, dqa, dqb);
+    let x = exact(q, ir, offset);
+    let s = shift_16(x);
+    if within(-0x400, 0x3ff, s) {
+        return Short {
+            v: s as i16,
+            flag: 0,
+        };
+    }
+    coordinate_tested(x, bit)
+}
+
+// Line 7, with each of its tests: the MAC0 that stays, and IR0.
+fn cue_factor_tested(x: i64) -> Factor
+    ensures { λ r. ⌜ r ≡ record { mac0 = wrap (2 ^ 31) x; ir0 = factorOf (shrZ x 4096); flag = or (mac0Flag x) (raise (outside (pos 0) (pos 0x1000) (shrZ x 4096)) 0x1000) } ⌝ }
+{
     let m = store_mac0(x);
     let f = limit_factor(shift_12(x));
     Factor {
@@ -114,6 +127,23 @@ fn cue_factor(q: u32, dqa: i16, dqb: i32) -> Factor
         ir0: f.v,
         flag: m.flag | f.flag,
     }
+}
+
+// Line 7. An IR0 in range comes from a MAC0 that needs no test.
+fn cue_factor(q: u32, dqa: i16, dqb: i32) -> Factor
+    requires { ⌜ q < 2 ^ 17 ⌝ }
+    ensures { λ r. ⌜ r ≡ record { mac0 = wrap (2 ^ 31) (exactOf q dqa dqb); ir0 = factorOf (shrZ (exactOf q dqa dqb) 4096); flag = or (mac0Flag (exactOf q dqa dqb)) (raise (outside (pos 0) (pos 0x1000) (shrZ (exactOf q dqa dqb) 4096)) 0x1000) } ⌝ }
+{
+    let x = exact(q, dqa, dqb);
+    let f = shift_12(x);
+    if within(0, 0x1000, f) {
+        return Factor {
+            mac0: x as i32,
+            ir0: f as u32,
+            flag: 0,
+        };
+    }
+    cue_factor_tested(x)
 }
 
 // Lines 5 to 7.
@@ -133,8 +163,8 @@ fn to_screen(k: Camera, sz: u32, ir1: i16, ir2: i16) -> Screen
     }
 }
 
-// Lines 3 and 4. IR3 sets no flag of its own: bits 22 and 18 test the 44-bit sum shifted by 12.
-fn third_line(x: i64, sf: bool) -> Third
+// Lines 3 and 4, with each of their tests. IR3 sets no flag of its own: bits 22 and 18 test the 44-bit sum shifted by 12.
+fn third_line_tested(x: i64, sf: bool) -> Third
     requires { ⌜ Mag x (3 * 2 ^ 43) ⌝ }
     ensures { λ r. ⌜ r ≡ record { mac = macOf sf x; ir = irOf false (macOf sf x); sz = depthOf (farOf x); flag = or (sumFlag 0x1000_0000 0x200_0000 x) (or (raise (outside (negsuc 0x7fff) (pos 0x7fff) (farOf x)) 0x40_0000) (raise (outside (pos 0) (pos 0xffff) (farOf x)) 0x4_0000)) } ⌝ }
 {
@@ -150,6 +180,25 @@ fn third_line(x: i64, sf: bool) -> Third
         sz: s.v,
         flag: w.flag | (f.flag | s.flag),
     }
+}
+
+// Lines 3 and 4. With sf = 1 a depth that IR3 can hold is MAC3, IR3 and SZ3, and sets no bit.
+fn third_line(x: i64, sf: bool) -> Third
+    requires { ⌜ Mag x (3 * 2 ^ 43) ⌝ }
+    ensures { λ r. ⌜ r ≡ record { mac = macOf sf x; ir = irOf false (macOf sf x); sz = depthOf (farOf x); flag = or (sumFlag 0x1000_0000 0x200_0000 x) (or (raise (outside (negsuc 0x7fff) (pos 0x7fff) (farOf x)) 0x40_0000) (raise (outside (pos 0) (pos 0xffff) (farOf x)) 0x4_0000)) } ⌝ }
+{
+    if sf {
+        let z = shift_12(x);
+        if within(0, 0x7fff, z) {
+            return Third {
+                mac: z as i32,
+                ir: z as i16,
+                sz: z as u32,
+                flag: 0,
+            };
+        }
+    }
+    third_line_tested(x, sf)
 }
 
 // All seven lines, from the three exact sums.
