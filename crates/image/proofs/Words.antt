@@ -1,38 +1,29 @@
 -- Rows of words: filled one at a time, and compared one at a time.
-use Prim.Native.Nat.{ℕ, zero, suc, _+_, _%_, _<_, _≤_}
+use Prim.Native.Nat.{ℕ, suc, _+_, _<_, _≤_}
 use native.Mathlib.Numerals.{add-one}
 use native.Mathlib.Omega.{arith}
 use mathlib.Core.Bool.{Bool, true, false, _&&_, and-eq-true-iff}
-use mathlib.Core.List.{List, [], _∷_, _++_}
+use mathlib.Core.List.{List, [], _∷_}
 use mathlib.Core.Path.{_≡_, refl, sym, ap, _∙_}
 use lib.Dec.{eqb}
-use lib.ListN.{length, getD, take, drop, set, length-set, drop-of-length-le}
-use lib.Seq.{take-suc-set, take-suc, take-all, drop-cons}
+use lib.ListN.{length, getD, drop, drop-of-length-le}
+use lib.Seq.{drop-cons}
 use borrow.Author.Tests.{eq-eqb, ne-eqb, eqb-true}
-use Rattle.gte_registers.specs.Registers.{reads, view}
+use Rattle.gte_registers.specs.Registers.{kinds, readOf, reads, view}
+use Rattle.gte_registers.proofs.Views.{from, spelt}
+use Rattle.image.specs.Taken.{taken}
 use Rattle.image.specs.Image.{same}
 
--- ---- 64 words taken over from a row
-pub record Filling (want r : List ℕ) (i : ℕ) : Type 0 where
-  pub below : i ≤ 64
-  pub long : length r ≡ 64
-  pub filled : take i r ≡ take i want
+-- ---- the words that are not plain, taken over from what reads return
+abbrev shown : List ℕ → List ℕ → List ℕ
+shown w r = taken (36 ∷ 44 ∷ 52 ∷ 58 ∷ 59 ∷ 61 ∷ 62 ∷ 63 ∷ []) w (taken (15 ∷ 16 ∷ 17 ∷ 18 ∷ 19 ∷ 28 ∷ 29 ∷ 31 ∷ []) w (taken (1 ∷ 3 ∷ 5 ∷ 7 ∷ 8 ∷ 9 ∷ 10 ∷ 11 ∷ []) w r))
 
-pub filling-more : (want r : List ℕ) (i v : ℕ) → length want ≡ 64 → i < 64 → Filling want r i → v ≡ getD want (i % 64) 0 → Filling want (set r i v) (i + 1)
-filling-more want r i v n lt f e =
-    let low : i % 64 ≡ i = omega arith in
-    let at : v ≡ getD want i 0 = e ∙ ap (λ (k : ℕ). getD want k 0) low in
-    record {
-      below = omega arith;
-      long = length-set r i v ∙ f .long;
-      filled =
-          rw (add-one i)
-          (take-suc-set r i v (omega (arith, f .long)) ∙ rw (f .filled, at) (sym (take-suc want i 0 (omega arith))));
-    }
+as-read : (g : List ℕ) → shown (view g) (from 64 0 g) ≡ view g
+unfolding view reads readOf kinds
+as-read g = refl
 
-pub filling-all : (want r : List ℕ) (i : ℕ) → length want ≡ 64 → Filling want r i → 64 ≤ i → r ≡ want
-filling-all want r i n f ge =
-    sym (take-all i r (omega (arith, f .long))) ∙ f .filled ∙ take-all i want (omega arith)
+pub all-taken : (g : List ℕ) → length g ≡ 64 → shown (view g) g ≡ view g
+all-taken g h = ap (shown (view g)) (spelt g h) ∙ as-read g
 
 pub view-long : (s : List ℕ) → length (view s) ≡ 64
 unfolding view reads

@@ -1,11 +1,12 @@
 // The bytes of an image, and the machine that they describe.
 ghost use mathlib.Core.Path.{_≡_};
 ghost use mathlib.Core.Bool.{_&&_};
-ghost use mathlib.Core.List.{_++_};
+ghost use mathlib.Core.List.{_++_, [], _∷_};
 ghost use Prim.Native.Nat.{_≤_};
 ghost use lib.ListN.{length};
 ghost use Rattle.words.specs.Bytes.{bytesOf};
 ghost use Rattle.gte_registers.specs.Registers.{view};
+ghost use Rattle.image.specs.Taken.{taken};
 ghost use Rattle.image.specs.Image.{controlOf, controlWords, same, pendingFormed, systemFormed, controlFormed, geometryFormed, formed};
 use alu::HiLo;
 use control::Control;
@@ -13,6 +14,7 @@ use control::Flow;
 use control::Pending;
 use control::System;
 use gte_registers::register::read;
+use gte_registers::register::sized;
 use words::bytes::write_words;
 
 // The control state of words 32..43.
@@ -101,16 +103,57 @@ fn control_formed(w: &[u32; 12]) -> bool
     }
 }
 
-// The 64 registers as reads return them.
+// Vectors, OTZ and IR as reads return them.
+fn take_inputs(g: &[u32; 64], r: &mut [u32; 64])
+    ensures { λ _. ⌜ now (r .exit) ≡ taken (1 ∷ 3 ∷ 5 ∷ 7 ∷ 8 ∷ 9 ∷ 10 ∷ 11 ∷ []) (view (now (g .entry))) (now (r .entry)) ⌝ }
+{
+    r[1] = read(g, 1);
+    r[3] = read(g, 3);
+    r[5] = read(g, 5);
+    r[7] = read(g, 7);
+    r[8] = read(g, 8);
+    r[9] = read(g, 9);
+    r[10] = read(g, 10);
+    r[11] = read(g, 11);
+}
+
+// SXYP, the depths, IRGB, ORGB and LZCR.
+fn take_queues(g: &[u32; 64], r: &mut [u32; 64])
+    ensures { λ _. ⌜ now (r .exit) ≡ taken (15 ∷ 16 ∷ 17 ∷ 18 ∷ 19 ∷ 28 ∷ 29 ∷ 31 ∷ []) (view (now (g .entry))) (now (r .entry)) ⌝ }
+{
+    r[15] = read(g, 15);
+    r[16] = read(g, 16);
+    r[17] = read(g, 17);
+    r[18] = read(g, 18);
+    r[19] = read(g, 19);
+    r[28] = read(g, 28);
+    r[29] = read(g, 29);
+    r[31] = read(g, 31);
+}
+
+// The control registers that are halves, and FLAG.
+fn take_controls(g: &[u32; 64], r: &mut [u32; 64])
+    ensures { λ _. ⌜ now (r .exit) ≡ taken (36 ∷ 44 ∷ 52 ∷ 58 ∷ 59 ∷ 61 ∷ 62 ∷ 63 ∷ []) (view (now (g .entry))) (now (r .entry)) ⌝ }
+{
+    r[36] = read(g, 36);
+    r[44] = read(g, 44);
+    r[52] = read(g, 52);
+    r[58] = read(g, 58);
+    r[59] = read(g, 59);
+    r[61] = read(g, 61);
+    r[62] = read(g, 62);
+    r[63] = read(g, 63);
+}
+
+// The 64 registers as reads return them: all but those above are plain words.
 fn reads_of(g: &[u32; 64]) -> [u32; 64]
     ensures { λ r. ⌜ r ≡ view (now (g .entry)) ⌝ }
 {
-    let mut r = [0u32; 64];
-    let mut i = 0;
-    while i < 64 {
-        r[i] = read(g, i);
-        i += 1;
-    }
+    sized(g);
+    let mut r = *g;
+    take_inputs(g, &mut r);
+    take_queues(g, &mut r);
+    take_controls(g, &mut r);
     r
 }
 
