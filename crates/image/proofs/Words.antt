@@ -1,4 +1,4 @@
--- Rows of words: filled one at a time, and compared one at a time.
+-- Rows of words: taken over from what reads return, and compared one at a time.
 use Prim.Native.Nat.{ℕ, suc, _+_, _<_, _≤_}
 use native.Mathlib.Numerals.{add-one}
 use native.Mathlib.Omega.{arith}
