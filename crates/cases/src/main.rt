@@ -175,7 +175,13 @@ fn join(high: u32, low: u32) -> u64 {
 }
 
 // A run over the first bytes of image and RAM; all ones where there are not so many.
-fn run(image: &mut [u8], ram: &mut [u8], image_length: usize, ram_length: usize, count: u64) -> u64 {
+fn run(
+    image: &mut [u8],
+    ram: &mut [u8],
+    image_length: usize,
+    ram_length: usize,
+    count: u64,
+) -> u64 {
     if image.len() < image_length {
         return 0xffff_ffff_ffff_ffff;
     }
@@ -261,12 +267,7 @@ fn counted(x: Case, t: Tally) -> Case {
 }
 
 // A case begins.
-fn begin_case(
-    g: &mut [u32; 64],
-    image: &mut [u8; 512],
-    ram: &mut [u8; 2097160],
-    t: Tally,
-) -> Case {
+fn begin_case(g: &mut [u32; 64], image: &mut [u8; 512], ram: &mut [u8; 2097160], t: Tally) -> Case {
     *g = [0; 64];
     *image = [0; 512];
     *ram = [0; 2097160];
@@ -313,8 +314,14 @@ fn follow(
         b'i' => with_image_length(x, a),
         b'l' => with_ram_length(x, a),
         b'h' => with_high(x, a),
-        b's' => with_answer(x, run(image, ram, x.image_length, x.ram_length, join(x.high, a))),
-        b'f' => with_answer(x, find(image, ram, x.image_length, x.ram_length, join(x.high, a), b)),
+        b's' => with_answer(
+            x,
+            run(image, ram, x.image_length, x.ram_length, join(x.high, a)),
+        ),
+        b'f' => with_answer(
+            x,
+            find(image, ram, x.image_length, x.ram_length, join(x.high, a), b),
+        ),
         b'v' => with_answer(x, window(ram, x.ram_length, a, b)),
         b'c' => {
             let t = x.tally;
@@ -336,9 +343,20 @@ fn check_line(
 ) -> Case {
     let t = x.tally;
     match letter {
-        b'x' => counted(x, compare(t, a, gte_registers::register::read(g, a as usize) as u64, b as u64)),
+        b'x' => counted(
+            x,
+            compare(
+                t,
+                a,
+                gte_registers::register::read(g, a as usize) as u64,
+                b as u64,
+            ),
+        ),
         b'a' => counted(x, compare(t, 0, x.answer, join(a, b))),
-        b'r' => counted(x, compare(t, a, word(image, (a as usize) * 4) as u64, b as u64)),
+        b'r' => counted(
+            x,
+            compare(t, a, word(image, (a as usize) * 4) as u64, b as u64),
+        ),
         b'q' => counted(x, compare(t, a, word(ram, a as usize) as u64, b as u64)),
         _ => counted(x, compare(t, wide(letter), 0, 1)),
     }
@@ -429,6 +447,10 @@ fn nothing() -> Case {
     }
 }
 
+fn read_block(buf: &mut [u8; 65520]) -> usize {
+    io::read_full(0, buf)
+}
+
 // Reads block after block, at most 16 of them, carries out their lines and counts.
 fn follow_all(ram: &mut [u8; 2097160]) -> Tally {
     let mut g = [0u32; 64];
@@ -437,7 +459,7 @@ fn follow_all(ram: &mut [u8; 2097160]) -> Tally {
     let mut x = nothing();
     let mut i: usize = 0;
     while i < 16 {
-        let n = io::read_full(0, &mut buf);
+        let n = read_block(&mut buf);
         x = block(x, &mut g, &mut image, ram, &buf, n / 20);
         if n % 20 != 0 {
             io::write_all(1, b"\nthe input ends inside a line");

@@ -15,10 +15,10 @@ fn count(s: &[u32]) -> usize
 }
 
 // A lent array's list has as many elements as its type says: a fact for callers, and no code.
-pub fn sized(c: &[u32; 64]) -> usize
+pub fn sized(c: &[u32; 64])
     ensures { λ _. ⌜ length (now (c .entry)) ≡ 64 ⌝ }
 {
-    count(c)
+    count(c);
 }
 
 // The five-bit field of an IR.

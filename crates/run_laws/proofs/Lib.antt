@@ -3,3 +3,4 @@ pub mod Joins
 pub mod Answers
 pub mod Demand
 pub mod Searches
+pub mod Unmoved

@@ -2,9 +2,9 @@
 use mathlib.Core.Bool.{Bool, true, cond, _||_}
 use mathlib.Core.List.{List}
 use mathlib.Core.Path.{_≡_}
-use Prim.Native.Nat.{ℕ, suc, _+_, _/_, _%_, _≤_}
+use Prim.Native.Nat.{ℕ, suc, _+_, _/_, _%_, _<_, _≤_}
 use lib.Dec.{eqb}
-use lib.ListN.{length}
+use lib.ListN.{length, getD}
 use Rattle.effects.specs.Effects.{State}
 use Rattle.memory.specs.Addresses.{ramLength}
 use Rattle.image.specs.Image.{imageLength, wellFormed}
@@ -60,3 +60,18 @@ CutInTwo =
     → ramLength (length ram) ≡ true
     → a + b ≤ mostSteps
     → Cut (answerOf m ram a) (answerOf (answerOf m ram a .image) (answerOf m ram a .ram) b) (answerOf m ram (a + b))
+
+-- every element is a byte, as in lent memory
+abbrev pub Bytes : List ℕ → Type 0
+Bytes m = (i : ℕ) → getD m i 0 < 256
+
+-- count 0 answers 0 and changes nothing, and so does a run that stops before its first step but for its code
+abbrev pub NothingDone : Type 0
+NothingDone =
+    (m ram : List ℕ) (count : ℕ)
+    → Bytes m
+    → Accepted m
+    → ramLength (length ram) ≡ true
+    → count ≤ mostSteps
+    → stepsIn (answerOf m ram count) ≡ 0
+    → (answerOf m ram count .image ≡ m) × (answerOf m ram count .ram ≡ ram)

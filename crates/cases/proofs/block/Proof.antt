@@ -2,9 +2,6 @@ use borrow.Author.Needs.{needs}
 use Prim.Native.Nat.{_-_, _≤_}
 use Rattle.cases.proofs.block.Statement.{statement}
 use Rattle.cases.proofs.block.Tie as tie
-use Rattle.cases.proofs.block.Reads as reads
-use Rattle.cases.proofs.block.Lts as lts
-use Rattle.cases.proofs.line.Reads as line-reads
 
 abbrev Inv-loop : tie.InvT-loop
 Inv-loop g₀ image₀ ram₀ buf lines x₀ k₀ g image ram x k = k ≤ lines
@@ -12,27 +9,21 @@ Inv-loop g₀ image₀ ram₀ buf lines x₀ k₀ g image ram x k = k ≤ lines
 abbrev μ-loop : tie.MeasureT-loop
 μ-loop g₀ image₀ ram₀ buf lines x₀ k₀ g image ram x k = lines - k
 
--- src/main.rt:398:5
 loop-holds : tie.Need-loop-holds Inv-loop μ-loop
 loop-holds c = search needs
 
--- src/main.rt:399:9
 line-requires : tie.Need-line-requires Inv-loop μ-loop
 line-requires c κs = search needs
 
--- src/main.rt:400:9
 add-k : tie.Need-add-k Inv-loop μ-loop
 add-k c = search needs
 
--- src/main.rt:398:5
 loop-less : tie.Need-loop-less Inv-loop μ-loop
 loop-less c = search needs
 
--- src/main.rt:398:5
 loop-again : tie.Need-loop-again Inv-loop μ-loop
 loop-again c = search needs
 
--- src/main.rt:388:1
 returns : tie.Need-returns Inv-loop μ-loop
 returns c = search needs
 

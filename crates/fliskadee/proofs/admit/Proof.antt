@@ -7,59 +7,41 @@ use Rattle.fliskadee.proofs.Refusals.{machine-is}
 use borrow.Author.Needs.{needs}
 use Rattle.fliskadee.proofs.admit.Statement.{statement}
 use Rattle.fliskadee.proofs.admit.Tie as tie
-use Rattle.fliskadee.proofs.admit.Reads as reads
-use Rattle.fliskadee.proofs.admit.Lts as lts
-use Rattle.fliskadee.proofs.refusal.Reads as refusal-reads
-use Rattle.image.proofs.control_from.Reads as control-from-reads
-use Rattle.image.proofs.well_formed.Reads as well-formed-reads
-use Rattle.words.proofs.bytes.read_words.Reads as read-words-reads
 
--- src/lib.rt:56:22
 control-from-requires : tie.Need-control-from-requires
 control-from-requires c κs = search needs
 
--- src/lib.rt:54:9
 returns : tie.Need-returns
 unfolding refusalOf
 returns c = (rw (ne-eqb _ _ (c .before .before .if1 .taken)), λ z m. absurd (omega arith))
 
--- src/lib.rt:61:26
 slice-aggregate-read-words : tie.Need-slice-aggregate-read-words
 slice-aggregate-read-words c = search needs
 
--- src/lib.rt:61:5
 read-words-requires : tie.Need-read-words-requires
 read-words-requires c κs = search needs
 
--- src/lib.rt:62:28
 slice-aggregate-read-words-2 : tie.Need-slice-aggregate-read-words-2
 slice-aggregate-read-words-2 c = search needs
 
--- src/lib.rt:62:5
 read-words-requires-2 : tie.Need-read-words-requires-2
 read-words-requires-2 c κs = search needs
 
--- src/lib.rt:63:28
 slice-aggregate-read-words-3 : tie.Need-slice-aggregate-read-words-3
 slice-aggregate-read-words-3 c = search needs
 
--- src/lib.rt:63:5
 read-words-requires-3 : tie.Need-read-words-requires-3
 read-words-requires-3 c κs = search needs
 
--- src/lib.rt:64:9
 well-formed-requires : tie.Need-well-formed-requires
 well-formed-requires c κs = search needs
 
--- src/lib.rt:66:15
 refusal-requires : tie.Need-refusal-requires
 refusal-requires c κs = search needs
 
--- src/lib.rt:67:18
 control-from-requires-2 : tie.Need-control-from-requires-2
 control-from-requires-2 c κs = search needs
 
--- src/lib.rt:46:1
 returns-2 : tie.Need-returns-2
 unfolding refusalOf
 returns-2 c = (rw (eq-eqb _ _ (c .before .before .before .before .before .before .before .before .before .before .before .before .before .before .before .before .if1 .left), ← c .before .before .before .before .before .before .before .before .before .before .before .before .before .before .read-words .ensures, ← c .before .before .before .before .before .before .before .before .before .before .before .read-words2 .ensures, ← c .before .before .before .before .before .before .before .before .read-words3 .ensures, ← c .before .before .before .well-formed .ensures) (c .before .before .refusal .ensures), λ z. machine-is _ _ _ _ _ _ _ _ (c .before .before .before .before .before .before .before .before .before .before .before .before .before .before .read-words .ensures) (c .before .before .before .before .before .before .before .before .before .before .before .read-words2 .ensures) (c .before .before .before .before .before .before .before .before .read-words3 .ensures) (c .control-from2 .ensures) (c .before .before .before .well-formed .ensures) (sym (c .before .before .refusal .ensures) ∙ z))

@@ -7,58 +7,42 @@ use Rattle.fliskadee.proofs.Refusals.{passed, small, refused-is}
 use borrow.Author.Needs.{needs}
 use Rattle.fliskadee.proofs.fliskadee_find_flag.Statement.{statement}
 use Rattle.fliskadee.proofs.fliskadee_find_flag.Tie as tie
-use Rattle.fliskadee.proofs.fliskadee_find_flag.Reads as reads
-use Rattle.fliskadee.proofs.fliskadee_find_flag.Lts as lts
-use Rattle.fliskadee.proofs.admit.Reads as admit-reads
-use Rattle.image.proofs.write_image.Reads as write-image-reads
-use Rattle.run.proofs.run_until.Reads as run-until-reads
 
--- src/lib.rt:99:9
 admit-requires : tie.Need-admit-requires
 admit-requires c κs = search needs
 
--- src/lib.rt:101:16
 mul-result : tie.Need-mul-result
 unfolding findOf
 mul-result c = let h = small _ _ _ _ (c .before .before .before .admit .ensures .0) in search needs
 
--- src/lib.rt:101:9
 same-length : tie.Need-same-length
 same-length c = search needs
 
--- src/lib.rt:101:9
 returns : tie.Need-returns
 unfolding findOf
 returns c = rw (← c .before .before .before .admit .ensures .0) (refused-is _ _ _ _ _ (c .before .if1 .taken) refl)
 
--- src/lib.rt:106:9
 run-until-requires : tie.Need-run-until-requires
 unfolding findOf
 run-until-requires c κs = passed _ _ _ (sym (c .before .before .before .before .before .before .before .before .admit .ensures .0) ∙ c .before .before .before .before .before .before .if1 .left) .ok
 
--- src/lib.rt:108:5
 write-image-requires : tie.Need-write-image-requires
 unfolding findOf
 write-image-requires c κs = passed _ _ _ (sym (c .before .before .before .before .before .before .before .before .before .before .before .before .before .before .before .admit .ensures .0) ∙ c .before .before .before .before .before .before .before .before .before .before .before .before .before .if1 .left) .long
 
--- src/lib.rt:109:5
 mul-result-2 : tie.Need-mul-result-2
 mul-result-2 c = search needs
 
--- src/lib.rt:109:5
 add-result : tie.Need-add-result
 unfolding findOf
 add-result c = let h = passed _ _ _ (sym (c .before .before .before .before .before .before .before .before .before .before .before .before .before .before .before .before .before .before .before .before .admit .ensures .0) ∙ c .before .before .before .before .before .before .before .before .before .before .before .before .before .before .before .before .before .before .if1 .left) .most in omega (arith, c .before .before .before .before .before .before .before .before .before .before .before .run-until .ensures .1 .0, c .before .before .before .before .before .before .before .before .before .before .before .run-until .ensures .1 .1)
 
--- src/lib.rt:90:1
 same-length-2 : tie.Need-same-length-2
 same-length-2 c = search needs
 
--- src/lib.rt:90:1
 same-length-3 : tie.Need-same-length-3
 same-length-3 c = search needs
 
--- src/lib.rt:90:1
 returns-2 : tie.Need-returns-2
 unfolding findOf
 returns-2 c = rw (← c .before .before .before .before .before .before .before .before .before .before .before .before .before .before .before .before .before .before .before .before .admit .ensures .0, eq-eqb _ _ (c .before .before .before .before .before .before .before .before .before .before .before .before .before .before .before .before .before .before .if1 .left), ← c .before .before .before .before .before .before .before .before .before .before .before .before .before .before .before .before .before .before .before .before .admit .ensures .1 (c .before .before .before .before .before .before .before .before .before .before .before .before .before .before .before .before .before .before .if1 .left) _, ← c .before .before .before .before .before .before .before .before .before .before .before .run-until .ensures .0, c .before .before .before .before .write-image .ensures)

@@ -4,30 +4,22 @@ use Rattle.fliskadee.specs.Answer.{afterFormed}
 use borrow.Author.Needs.{needs}
 use Rattle.fliskadee.proofs.refusal.Statement.{statement}
 use Rattle.fliskadee.proofs.refusal.Tie as tie
-use Rattle.fliskadee.proofs.refusal.Reads as reads
-use Rattle.fliskadee.proofs.refusal.Lts as lts
-use Rattle.memory.proofs.ram_length.Reads as ram-length-reads
 
--- src/lib.rt:36:12
 ram-length-requires : tie.Need-ram-length-requires
 ram-length-requires c κs = search needs
 
--- src/lib.rt:32:1
 returns : tie.Need-returns
 unfolding afterFormed
 returns c = rw (c .before .before .before .if1 .taken, ← c .before .before .ram-length .ensures, c .before .if2 .taken, le-leb _ _ (c .if3 .taken))
 
--- src/lib.rt:32:1
 returns-2 : tie.Need-returns-2
 unfolding afterFormed
 returns-2 c = rw (c .before .before .before .if1 .taken, ← c .before .before .ram-length .ensures, c .before .if2 .taken, lt-leb _ _ (c .if3 .left))
 
--- src/lib.rt:32:1
 returns-3 : tie.Need-returns-3
 unfolding afterFormed
 returns-3 c = rw (c .before .before .if1 .taken, ← c .before .ram-length .ensures, c .if2 .left)
 
--- src/lib.rt:32:1
 returns-4 : tie.Need-returns-4
 unfolding afterFormed
 returns-4 c = rw (c .if1 .left)

@@ -3,59 +3,43 @@ use Rattle.image.specs.Image.{controlFormed}
 use borrow.Author.Needs.{needs}
 use Rattle.image.proofs.control_formed.Statement.{statement}
 use Rattle.image.proofs.control_formed.Tie as tie
-use Rattle.image.proofs.control_formed.Reads as reads
-use Rattle.image.proofs.control_formed.Lts as lts
-use Rattle.image.proofs.pending_formed.Reads as pending-formed-reads
-use Rattle.image.proofs.system_formed.Reads as system-formed-reads
 
--- src/lib.rt:80:23
 element-copy-out-pending-formed : tie.Need-element-copy-out-pending-formed
 element-copy-out-pending-formed c = search needs
 
--- src/lib.rt:80:29
 element-copy-out-pending-formed-2 : tie.Need-element-copy-out-pending-formed-2
 element-copy-out-pending-formed-2 c = search needs
 
--- src/lib.rt:80:8
 pending-formed-requires : tie.Need-pending-formed-requires
 pending-formed-requires c κs = search needs
 
--- src/lib.rt:81:16
 element-copy-out-if2 : tie.Need-element-copy-out-if2
 element-copy-out-if2 c = search needs
 
--- src/lib.rt:82:13
 returns : tie.Need-returns
 unfolding controlFormed
 returns c = rw (← c .before .before .before .pending-formed .ensures, c .before .before .if1 .taken, lt-leb _ _ (c .if2 .taken))
 
--- src/lib.rt:84:12
 element-copy-out-if3 : tie.Need-element-copy-out-if3
 element-copy-out-if3 c = search needs
 
--- src/lib.rt:85:13
 returns-2 : tie.Need-returns-2
 unfolding controlFormed
 returns-2 c = rw (← c .before .before .before .before .before .pending-formed .ensures, c .before .before .before .before .if1 .taken, le-leb _ _ (c .before .before .if2 .left), ne-eqb _ _ (c .if3 .taken))
 
--- src/lib.rt:87:23
 element-copy-out-system-formed : tie.Need-element-copy-out-system-formed
 element-copy-out-system-formed c = search needs
 
--- src/lib.rt:87:29
 element-copy-out-system-formed-2 : tie.Need-element-copy-out-system-formed-2
 element-copy-out-system-formed-2 c = search needs
 
--- src/lib.rt:87:9
 system-formed-requires : tie.Need-system-formed-requires
 system-formed-requires c κs = search needs
 
--- src/lib.rt:77:1
 returns-3 : tie.Need-returns-3
 unfolding controlFormed
 returns-3 c = rw (← c .before .before .before .before .before .before .before .before .pending-formed .ensures, c .before .before .before .before .before .before .before .if1 .taken, le-leb _ _ (c .before .before .before .before .before .if2 .left), eq-eqb _ _ (c .before .before .before .if3 .left)) (c .system-formed .ensures)
 
--- src/lib.rt:77:1
 returns-4 : tie.Need-returns-4
 unfolding controlFormed
 returns-4 c = rw (← c .before .pending-formed .ensures, c .if1 .left)

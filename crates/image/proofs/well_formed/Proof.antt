@@ -4,34 +4,24 @@ use Rattle.image.specs.Image.{formed}
 use borrow.Author.Needs.{needs}
 use Rattle.image.proofs.well_formed.Statement.{statement}
 use Rattle.image.proofs.well_formed.Tie as tie
-use Rattle.image.proofs.well_formed.Reads as reads
-use Rattle.image.proofs.well_formed.Lts as lts
-use Rattle.image.proofs.control_formed.Reads as control-formed-reads
-use Rattle.image.proofs.geometry_formed.Reads as geometry-formed-reads
 
--- src/lib.rt:133:8
 element-copy-out-if1 : tie.Need-element-copy-out-if1
 element-copy-out-if1 c = search needs
 
--- src/lib.rt:134:9
 returns : tie.Need-returns
 unfolding formed
 returns c = rw (ne-eqb _ _ (c .if1 .taken))
 
--- src/lib.rt:136:8
 control-formed-requires : tie.Need-control-formed-requires
 control-formed-requires c κs = search needs
 
--- src/lib.rt:137:9
 geometry-formed-requires : tie.Need-geometry-formed-requires
 geometry-formed-requires c κs = search needs
 
--- src/lib.rt:130:1
 returns-2 : tie.Need-returns-2
 unfolding formed
 returns-2 c = rw (eq-eqb _ _ (c .before .before .before .if1 .left), ← c .before .before .control-formed .ensures, c .before .if2 .taken) (c .geometry-formed .ensures)
 
--- src/lib.rt:130:1
 returns-3 : tie.Need-returns-3
 unfolding formed
 returns-3 c = rw (eq-eqb _ _ (c .before .before .if1 .left), ← c .before .control-formed .ensures, c .if2 .left)

@@ -1,0 +1,55 @@
+-- A run that completes no step leaves image and RAM as they were: the image of the machine that was read is the image.
+use Prim.Native.Nat.{ℕ, zero, suc, _+_, _*_, _<_, _≤_}
+use native.Mathlib.Omega.{arith}
+use mathlib.Core.Bool.{Bool, true, false, cond}
+use mathlib.Core.List.{List, _++_}
+use mathlib.Core.Path.{_≡_, refl, sym, ap, _∙_}
+use lib.ListN.{length, getD}
+use Rattle.words.specs.Bytes.{wordsAt, bytesOf}
+use Rattle.words.proofs.Rows.{read-append, bytes-back}
+use Rattle.memory.specs.Addresses.{ramLength}
+use Rattle.effects.specs.Effects.{State}
+use Rattle.processor.specs.Step.{Tick, stepOf}
+use Rattle.image.specs.Image.{registersIn, controlIn, geometryIn, controlOf, controlWords, machineOf, imageOf}
+use Rattle.image.proofs.Formed.{formed-in}
+use Rattle.run.specs.Run.{Run, ran, further, onwards, runOf}
+use Rattle.fliskadee.specs.Answer.{finished, mostSteps, answerOf}
+use Rattle.step_laws.proofs.Kept.{step-kept}
+use Rattle.run_laws.specs.Runs.{Accepted, stepsIn, Bytes, NothingDone}
+use Rattle.run_laws.proofs.Joins.{run-going}
+use Rattle.run_laws.proofs.Answers.{answer-run, steps-packed}
+
+-- the twelve control words, with word 43 zero
+control-same : (m : List ℕ) → getD (controlIn m) 11 0 ≡ 0 → controlWords (controlOf (controlIn m)) ≡ controlIn m
+unfolding wordsAt
+control-same m h = rw h
+
+words-same : (m : List ℕ) → registersIn m ++ (controlIn m ++ geometryIn m) ≡ wordsAt m 0 108
+words-same m = rw (read-append m 0 32 76, read-append m 128 12 64)
+
+pub image-same : (m ram : List ℕ) → Bytes m → Accepted m → imageOf (machineOf m ram) ≡ m
+image-same m ram b a =
+    let f = formed-in (registersIn m) (controlIn m) (geometryIn m) (a .formed) in
+    ap (λ (w : List ℕ). bytesOf (registersIn m ++ (w ++ geometryIn m))) (control-same m (f .last)) ∙ ap bytesOf (words-same m) ∙ bytes-back 108 m b (a .long)
+
+-- ---- no step: the machine is the one that was read
+still-by : (b d : Bool) (r : Run) (t : Tick) (s : State) → r .stop ≡ b → t .stop ≡ d → (d ≡ true → t .after ≡ r .last) → (r .steps ≡ 0 → r .last ≡ s) → cond b r (further r t) .steps ≡ 0 → cond b r (further r t) .last ≡ s
+still-by true d r t s e f k h z = h z
+still-by false true r t s e f k h z = k refl ∙ h (rw f at z)
+still-by false false r t s e f k h z = let y : r .steps + 1 ≡ 0 = rw f at z in absurd (omega arith)
+
+still : (n : ℕ) (s : State) → runOf n s .steps ≡ 0 → runOf n s .last ≡ s
+unfolding runOf onwards
+still zero s z = refl
+still (suc n) s z =
+    still-by (runOf n s .stop) (stepOf (runOf n s .last) .stop) (runOf n s) (stepOf (runOf n s .last)) s refl refl (step-kept (runOf n s .last) .stays) (still n s) z
+
+pub nothing-done : NothingDone
+nothing-done m ram count b a ok h z =
+    let s = machineOf m ram in
+    let r = runOf count s in
+    let e : answerOf m ram count ≡ finished r = answer-run m ram count a ok h in
+    let small : r .steps < 1048576 = omega (arith, run-going count s .most) in
+    let none : r .steps ≡ 0 = sym (steps-packed (r .stop) (r .steps) small) ∙ (rw e at z) in
+    let l : r .last ≡ s = still count s none in
+    rw (e, l) (image-same m ram b a, refl)
