@@ -120,7 +120,7 @@ fn multiply(m: [[i16; 3]; 3], t: Long, v: Vector, cv: u32, sf: bool, lm: bool) -
     }
 }
 
-pub fn mvmva(c: &mut [u32; 64], mx: u32, v: u32, cv: u32, sf: bool, lm: bool)
+pub(crate) fn mvmva(c: &mut [u32; 64], mx: u32, v: u32, cv: u32, sf: bool, lm: bool)
     requires { ⌜ (mx < 4) × (v < 4) × (cv < 4) ⌝ }
     ensures { λ _. ⌜ view (now (c .exit)) ≡ reads (lineLeft (mvmvaOf sf lm mx v cv (inputsOf (view (now (c .entry))))) (view (now (c .entry)))) ⌝ }
 {
@@ -130,7 +130,7 @@ pub fn mvmva(c: &mut [u32; 64], mx: u32, v: u32, cv: u32, sf: bool, lm: bool)
     leave_line(c, multiply(m, t, x, cv, sf, lm));
 }
 
-pub fn sqr(c: &mut [u32; 64], sf: bool, lm: bool)
+pub(crate) fn sqr(c: &mut [u32; 64], sf: bool, lm: bool)
     ensures { λ _. ⌜ view (now (c .exit)) ≡ reads (lineLeft (squareOf sf lm (inputsOf (view (now (c .entry))))) (view (now (c .entry)))) ⌝ }
 {
     let l = finish(squares(ir(c)), sf, lm);
@@ -148,7 +148,7 @@ fn diagonal_of(m: [[i16; 3]; 3]) -> Vector
     }
 }
 
-pub fn op(c: &mut [u32; 64], sf: bool, lm: bool)
+pub(crate) fn op(c: &mut [u32; 64], sf: bool, lm: bool)
     ensures { λ _. ⌜ view (now (c .exit)) ≡ reads (lineLeft (outerOf sf lm (inputsOf (view (now (c .entry))))) (view (now (c .entry)))) ⌝ }
 {
     let d = diagonal_of(rotation(c));

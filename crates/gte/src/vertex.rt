@@ -37,7 +37,7 @@ fn vertex_at(c: &[u32; 64], k: usize, sf: bool) -> Vertex
     project(s, camera(c), sf)
 }
 
-pub fn rtps(c: &mut [u32; 64], sf: bool)
+pub(crate) fn rtps(c: &mut [u32; 64], sf: bool)
     ensures { λ _. ⌜ view (now (c .exit)) ≡ reads (vertexLeft (vertexAt sf (inputsOf (view (now (c .entry)))) 0) (view (now (c .entry)))) ⌝ }
 {
     let v = vertex_at(c, 0, sf);
@@ -45,7 +45,7 @@ pub fn rtps(c: &mut [u32; 64], sf: bool)
 }
 
 // The three vertices read nothing that one of them writes.
-pub fn rtpt(c: &mut [u32; 64], sf: bool)
+pub(crate) fn rtpt(c: &mut [u32; 64], sf: bool)
     ensures { λ _. ⌜ view (now (c .exit)) ≡ reads (verticesLeft (vertexAt sf (inputsOf (view (now (c .entry)))) 0) (vertexAt sf (inputsOf (view (now (c .entry)))) 1) (vertexAt sf (inputsOf (view (now (c .entry)))) 2) (view (now (c .entry)))) ⌝ }
 {
     let p = vertex_at(c, 0, sf);
@@ -54,7 +54,7 @@ pub fn rtpt(c: &mut [u32; 64], sf: bool)
     leave_vertices(c, p, q, r);
 }
 
-pub fn nclip(c: &mut [u32; 64])
+pub(crate) fn nclip(c: &mut [u32; 64])
     ensures { λ _. ⌜ view (now (c .exit)) ≡ reads (windingLeft (windingOf (inputsOf (view (now (c .entry))) .sxy0) (inputsOf (view (now (c .entry))) .sxy1) (inputsOf (view (now (c .entry))) .sxy2)) (view (now (c .entry)))) ⌝ }
 {
     sized(c);
@@ -63,14 +63,14 @@ pub fn nclip(c: &mut [u32; 64])
     c[63] = m.flag;
 }
 
-pub fn avsz3(c: &mut [u32; 64])
+pub(crate) fn avsz3(c: &mut [u32; 64])
     ensures { λ _. ⌜ view (now (c .exit)) ≡ reads (averageLeft (averageOf (inputsOf (view (now (c .entry))) .zsf3) (inputsOf (view (now (c .entry))) .sz1 + inputsOf (view (now (c .entry))) .sz2 + inputsOf (view (now (c .entry))) .sz3)) (view (now (c .entry)))) ⌝ }
 {
     let a = average_depth(factor3(c), three_depths(c));
     leave_average(c, a);
 }
 
-pub fn avsz4(c: &mut [u32; 64])
+pub(crate) fn avsz4(c: &mut [u32; 64])
     ensures { λ _. ⌜ view (now (c .exit)) ≡ reads (averageLeft (averageOf (inputsOf (view (now (c .entry))) .zsf4) (inputsOf (view (now (c .entry))) .sz0 + inputsOf (view (now (c .entry))) .sz1 + inputsOf (view (now (c .entry))) .sz2 + inputsOf (view (now (c .entry))) .sz3)) (view (now (c .entry)))) ⌝ }
 {
     let a = average_depth(factor4(c), four_depths(c));

@@ -81,7 +81,7 @@ pub fn wrap_44(x: i64, over: u32, under: u32) -> Limited
     }
 }
 
-pub fn shift(x: i64, sf: bool) -> i64
+pub(crate) fn shift(x: i64, sf: bool) -> i64
     ensures { λ r. ⌜ r ≡ shrZ x (scale sf) ⌝ }
 {
     if sf { shift_12(x) } else { x }
@@ -95,7 +95,7 @@ pub fn cut(x: i64, sf: bool) -> i32
 }
 
 // MAC1..3: a whole sum tested, wrapped, shifted and stored.
-pub fn store_mac(x: i64, sf: bool, over: u32, under: u32) -> Stored
+pub(crate) fn store_mac(x: i64, sf: bool, over: u32, under: u32) -> Stored
     requires { ⌜ Mag x (3 * 2 ^ 43) ⌝ }
     ensures { λ r. ⌜ r ≡ record { v = macOf sf x; flag = sumFlag over under x } ⌝ }
 {
@@ -120,7 +120,7 @@ pub fn store_mac0(x: i64) -> Stored
     }
 }
 
-pub fn lowest_ir(lm: bool) -> i64
+pub(crate) fn lowest_ir(lm: bool) -> i64
     ensures { λ r. ⌜ r ≡ lowest lm ⌝ }
 {
     if lm { 0 } else { -0x8000 }

@@ -2,7 +2,7 @@
 use Prim.Native.Nat.{ℕ, suc, _+_, _*_, _/_, _%_, _<_, _≤_}
 use mathlib.Core.Bool.{Bool, true, false, cond, _&&_, and-eq-true-iff}
 use mathlib.Core.List.{List}
-use mathlib.Core.Path.{_≡_, refl}
+use mathlib.Core.Path.{_≡_, refl, sym, _∙_}
 use native.Mathlib.Omega.{arith}
 use lib.Dec.{eqb, ltb, leb}
 use lib.ListN.{length}
@@ -100,9 +100,9 @@ at-2 a = omega arith
 abbrev pub index : ℕ → ℕ
 index a = a % 0x8000_0000 / 4 + a % 0x8000_0000 % 4 * 0x4000_0000
 
-short : (m : List ℕ) → RamOk m → length m ≤ 2097152
+pub short : (len : ℕ) → ramLength len ≡ true → len ≤ 2097152
 unfolding ramLength
-short m ok = leb-true (length m) 2097152 (and-eq-true-iff (leb 4 (length m)) _ .0 (and-eq-true-iff (eqb (length m % 4) 0) _ .0 ok .1) .1)
+short len ok = leb-true len 2097152 (and-eq-true-iff (leb 4 len) _ .0 (and-eq-true-iff (eqb (len % 4) 0) _ .0 ok .1) .1)
 
 in-kernel : (a : ℕ) (zero : Bool) → eqb (a / 0x2000_0000) 0 ≡ zero → a < 0x1_0000_0000 → a / 0x2000_0000 % 4 ≡ 0 → mapped a ≡ true
 unfolding mapped
@@ -133,11 +133,19 @@ low a l = omega arith
 less : (x n k : ℕ) → x < n → n ≤ k → x < k
 less x n k h l = omega arith
 
-pub direct : (m : List ℕ) (a : ℕ) → RamOk m → a < 0x1_0000_0000 → index a < length m / 4 → placeOf a 4 false (length m) ≡ At (record { 0 = index a * 4 })
+pub direct : (len a : ℕ) → ramLength len ≡ true → a < 0x1_0000_0000 → index a < len / 4 → placeOf a 4 false len ≡ At (record { 0 = index a * 4 })
 unfolding placeOf segmentOf
-direct m a ok l h =
-    let n = short m ok in
-    let d = whole (a % 0x8000_0000) (length m) h n in
-    let i = inside (a % 0x8000_0000) (length m) h d in
-    let u = less (a % 0x8000_0000) (length m) 2097152 i n in
+direct len a ok l h =
+    let n = short len ok in
+    let d = whole (a % 0x8000_0000) len h n in
+    let i = inside (a % 0x8000_0000) len h d in
+    let u = less (a % 0x8000_0000) len 2097152 i n in
     rw (eq-eqb _ _ (by-four a d), in-kernel a (eqb (a / 0x2000_0000) 0) refl l (top a u), low a u, lt-ltb _ _ i, back (a % 0x8000_0000) d)
+
+-- an answer of the test that is a place is the place
+found-by : (b : Bool) (q : Place) (p : Phys) → cond b q Bus ≡ At p → q ≡ At p
+found-by true q p e = e
+found-by false q p e = let z : _≡_ {A = ℕ} 0 1 = cc in absurd (omega arith)
+
+pub found : (a len : ℕ) (p : Phys) (r : Place) → r ≡ cond (ltb (index a) (len / 4)) (placeOf a 4 false len) Bus → r ≡ At p → placeOf a 4 false len ≡ At p
+found a len p r e h = found-by (ltb (index a) (len / 4)) (placeOf a 4 false len) p (sym e ∙ h)

@@ -1,8 +1,8 @@
 // Addresses, loads and stores in RAM.
 ghost use mathlib.Core.Path.{_≡_};
 ghost use Prim.Native.Nat.{_+_, _*_, _/_, _%_, _<_, _≤_};
-ghost use mathlib.Core.Bool.{_&&_};
-ghost use lib.Dec.{leb};
+ghost use mathlib.Core.Bool.{true, false, cond, _&&_};
+ghost use lib.Dec.{ltb, leb};
 ghost use lib.ListN.{length, set, take, drop};
 ghost use lib.Seq.{sets};
 ghost use Rattle.memory.specs.Addresses.{ramLength, RamOk, mapped, segmentOf, placeOf};
@@ -91,6 +91,29 @@ pub fn translate(v: Virt, len: usize) -> Place
         }
     }
     Place::Bus
+}
+
+// The word of an address among RAM's words, in one number: an address that is not aligned, or has one of the bits 29 and
+// 30 set, gives a number that is above every length.
+fn word_index(a: u32) -> u32
+    ensures is { λ r. ⌜ r ≡ a % 0x8000_0000 / 4 + a % 0x8000_0000 % 4 * 0x4000_0000 ⌝ }
+    ensures word { λ _. ⌜ a < 0x1_0000_0000 ⌝ }
+{
+    let x = a % 0x8000_0000;
+    x / 4 + x % 4 * 0x4000_0000
+}
+
+// The segment translation of a word in kernel mode, by one test. Where the test does not find it in RAM, `locate` tells why.
+fn translate_word(v: Virt, len: usize) -> Place
+    requires { ⌜ ramLength len ≡ true ⌝ }
+    ensures { λ r. ⌜ r ≡ cond (ltb (v .0 % 0x8000_0000 / 4 + v .0 % 0x8000_0000 % 4 * 0x4000_0000) (len / 4)) (placeOf (v .0) 4 false len) Place.Bus ⌝ }
+{
+    let k = word_index(v.0);
+    if (k as usize) < len / 4 {
+        Place::At(Phys(k * 4))
+    } else {
+        Place::Bus
+    }
 }
 
 fn kernel_only(user: bool, a: u32) -> bool
@@ -217,16 +240,6 @@ fn load_at(k: LoadKind, ram: &[u8], v: Virt, user: bool, old: u32) -> Loaded
     }
 }
 
-// The word of an address among RAM's words, in one number: an address that is not aligned, or has one of the bits 29 and
-// 30 set, gives a number that is above every length.
-fn word_index(a: u32) -> u32
-    ensures is { λ r. ⌜ r ≡ a % 0x8000_0000 / 4 + a % 0x8000_0000 % 4 * 0x4000_0000 ⌝ }
-    ensures word { λ _. ⌜ a < 0x1_0000_0000 ⌝ }
-{
-    let x = a % 0x8000_0000;
-    x / 4 + x % 4 * 0x4000_0000
-}
-
 // A word, which is fetched at every step: one test finds it in RAM in kernel mode.
 fn load_word(ram: &[u8], v: Virt, user: bool, old: u32) -> Loaded
     requires { ⌜ RamOk (now ram) ⌝ }
@@ -235,9 +248,9 @@ fn load_word(ram: &[u8], v: Virt, user: bool, old: u32) -> Loaded
     if user {
         return load_at(LoadKind::Word, ram, v, user, old);
     }
-    let k = word_index(v.0) as usize;
-    if k < ram.len() / 4 {
-        return Loaded::Value(word_at(ram, k * 4));
+    let q = translate_word(v, ram.len());
+    if let Place::At(p) = q {
+        return Loaded::Value(word_at(ram, p.0 as usize));
     }
     load_at(LoadKind::Word, ram, v, user, old)
 }

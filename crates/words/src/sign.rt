@@ -27,7 +27,7 @@ pub fn to_bits(x: i32) -> u32
 }
 
 // The low byte, signed.
-pub fn low_byte(x: u32) -> i8
+fn low_byte(x: u32) -> i8
     ensures { λ r. ⌜ r ≡ lowSigned w8 x ⌝ }
 {
     let b = x % 0x100;
@@ -70,13 +70,7 @@ pub fn sign_extend_16(x: u32) -> u32
     to_bits(low_half(x) as i32)
 }
 
-// The low byte or half with zeros above it.
-pub fn zero_extend_8(x: u32) -> u32
-    ensures { λ r. ⌜ r ≡ zeroExtend w8 x ⌝ }
-{
-    x % 0x100
-}
-
+// The low half with zeros above it.
 pub fn zero_extend_16(x: u32) -> u32
     ensures { λ r. ⌜ r ≡ zeroExtend w16 x ⌝ }
 {
