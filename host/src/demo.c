@@ -122,8 +122,8 @@ static int show_case(const char *title, const int16_t triangle[3][3])
     printf("%s\n", title);
     put_machine(image, ram, triangle);
     uint64_t answer = fliskadee_run(image, sizeof image, ram, sizeof ram, PROGRAM_WORDS);
-    printf("The run answers code %u after %u steps.\n", (unsigned)(answer >> 20), (unsigned)(answer & 0xFFFFF));
-    if (answer >> 20 != 0)
+    printf("The run answers code %u after %u steps.\n", FLISKADEE_CODE(answer), (unsigned)FLISKADEE_STEPS(answer));
+    if (FLISKADEE_CODE(answer) != FLISKADEE_DONE)
         return 1;
     print_registers(image);
     print_flag(get(image, COP2 + FLAG));

@@ -99,7 +99,7 @@ static bool run_to_end(const char *name, int *pieces)
         uint64_t answer = fliskadee_run(image, sizeof image, ram, sizeof ram, PIECE);
         if (answer != PIECE) {
             printf("%s: failed, the library answers code %u after %u steps of piece %d, PC %08X\n", name,
-                   (unsigned)(answer >> 20), (unsigned)(answer & 0xFFFFF), piece, (unsigned)word_at(image, WORD_PC));
+                   FLISKADEE_CODE(answer), (unsigned)FLISKADEE_STEPS(answer), piece, (unsigned)word_at(image, WORD_PC));
             return false;
         }
     }

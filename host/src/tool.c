@@ -19,17 +19,7 @@
 enum { STATUS_FINE = 0, STATUS_FINDING = 1, STATUS_TROUBLE = 2 };
 
 enum {
-    CODE_DONE = 0,
-    CODE_IMAGE_LENGTH = 1,
-    CODE_NOT_WELL_FORMED = 2,
-    CODE_RAM_LENGTH = 3,
-    CODE_COUNT = 4,
-    CODE_UNKNOWN_COMMAND = 5,
-    CODE_FLAG_FOUND = 16
-};
-
-enum {
-    PIECE = 1000000,          /* the most steps that the library takes in one call */
+    PIECE = FLISKADEE_MOST_STEPS, /* the most steps that the library takes in one call */
     FILE_MOST = 16 * 1048576  /* well over any good RAM, so that the library gets to judge bad ones */
 };
 
@@ -131,14 +121,14 @@ static struct outcome run_piece(struct machine *machine, uint64_t count)
 {
     uint64_t answer = fliskadee_run(machine->image.data, machine->image.length, machine->ram.data, machine->ram.length,
                                     count);
-    return (struct outcome){(unsigned)(answer >> 20), answer & 0xFFFFF};
+    return (struct outcome){FLISKADEE_CODE(answer), FLISKADEE_STEPS(answer)};
 }
 
 static struct outcome find_piece(struct machine *machine, uint64_t count, uint32_t mask)
 {
     uint64_t answer = fliskadee_find_flag(machine->image.data, machine->image.length, machine->ram.data,
                                           machine->ram.length, count, mask);
-    return (struct outcome){(unsigned)(answer >> 20), answer & 0xFFFFF};
+    return (struct outcome){FLISKADEE_CODE(answer), FLISKADEE_STEPS(answer)};
 }
 
 static uint64_t least(uint64_t a, uint64_t b)
@@ -149,7 +139,7 @@ static uint64_t least(uint64_t a, uint64_t b)
 /* Any number of steps, in pieces that the library takes. */
 static struct outcome run_steps(struct machine *machine, uint64_t count)
 {
-    struct outcome outcome = {CODE_DONE, 0};
+    struct outcome outcome = {FLISKADEE_DONE, 0};
     struct progress progress;
     start_progress(&progress);
     do {
@@ -157,7 +147,7 @@ static struct outcome run_steps(struct machine *machine, uint64_t count)
         outcome.code = piece.code;
         outcome.steps += piece.steps;
         show_progress(&progress, outcome.steps, count);
-    } while (outcome.code == CODE_DONE && outcome.steps < count);
+    } while (outcome.code == FLISKADEE_DONE && outcome.steps < count);
     end_progress(&progress);
     return outcome;
 }
@@ -187,22 +177,22 @@ static void print_instruction(const struct machine *machine, const char *label)
 static int print_answer(struct outcome outcome, const struct machine *machine)
 {
     switch (outcome.code) {
-    case CODE_DONE:
+    case FLISKADEE_DONE:
         printf("Code 0: all steps done, %" PRIu64 " of them.\n", outcome.steps);
         return STATUS_FINE;
-    case CODE_IMAGE_LENGTH:
+    case FLISKADEE_IMAGE_LENGTH:
         complain("code 1: refused, the image has %zu bytes in place of %d; nothing was run.", machine->image.length,
                  IMAGE_BYTES);
         return STATUS_TROUBLE;
-    case CODE_NOT_WELL_FORMED:
+    case FLISKADEE_IMAGE_FORM:
         printf("Code 2: refused, the image is not well formed (the command check says why). Nothing was run.\n");
         return STATUS_FINDING;
-    case CODE_RAM_LENGTH:
+    case FLISKADEE_RAM_LENGTH:
         complain("code 3: refused, the RAM has %zu bytes in place of a multiple of 4 from %d to %d; nothing was run.",
                  machine->ram.length, RAM_LEAST, RAM_MOST);
         return STATUS_TROUBLE;
-    case CODE_COUNT: complain("code 4: refused, the step count is too large; nothing was run."); return STATUS_TROUBLE;
-    case CODE_UNKNOWN_COMMAND:
+    case FLISKADEE_COUNT: complain("code 4: refused, the step count is too large; nothing was run."); return STATUS_TROUBLE;
+    case FLISKADEE_UNLISTED:
         printf("Code 5: stopped after %" PRIu64 " steps, just before an unknown GTE command.\n", outcome.steps);
         print_instruction(machine, "  at ");
         return STATUS_FINDING;
@@ -214,7 +204,7 @@ static int print_answer(struct outcome outcome, const struct machine *machine)
 
 static bool was_run(struct outcome outcome)
 {
-    return outcome.code == CODE_DONE || outcome.code == CODE_UNKNOWN_COMMAND;
+    return outcome.code == FLISKADEE_DONE || outcome.code == FLISKADEE_UNLISTED;
 }
 
 static bool parse_argument(const char *text, const char *what, uint64_t least_value, uint64_t most, uint64_t *value)
@@ -354,10 +344,10 @@ static int command_check(int count, char **arguments)
         return STATUS_TROUBLE;
     if (image.length != IMAGE_BYTES) {
         printf("The file has %zu bytes; an image has %d.\n", image.length, IMAGE_BYTES);
-        expected = CODE_IMAGE_LENGTH;
+        expected = FLISKADEE_IMAGE_LENGTH;
     } else {
         unsigned wrong = check_image(image.data, tell_wrong_word, image.data);
-        expected = wrong == 0 ? CODE_DONE : CODE_NOT_WELL_FORMED;
+        expected = wrong == 0 ? FLISKADEE_DONE : FLISKADEE_IMAGE_FORM;
         if (wrong == 0)
             printf("The image is well formed.\n");
         else
@@ -371,7 +361,7 @@ static int command_check(int count, char **arguments)
                  expected, code);
         return STATUS_TROUBLE;
     }
-    return expected == CODE_DONE ? STATUS_FINE : STATUS_FINDING;
+    return expected == FLISKADEE_DONE ? STATUS_FINE : STATUS_FINDING;
 }
 
 static void print_difference(const uint8_t *first, const uint8_t *second, unsigned word)
@@ -440,7 +430,7 @@ static void print_found(unsigned bit, uint64_t step, const struct machine *befor
    just before the found step. */
 static struct outcome search_flag(struct machine *machine, struct machine *before, uint64_t count, uint32_t mask)
 {
-    struct outcome outcome = {CODE_DONE, 0};
+    struct outcome outcome = {FLISKADEE_DONE, 0};
     struct progress progress;
     start_progress(&progress);
     do {
@@ -448,10 +438,10 @@ static struct outcome search_flag(struct machine *machine, struct machine *befor
         struct outcome piece = find_piece(machine, least(count - outcome.steps, PIECE), mask);
         outcome.code = piece.code;
         outcome.steps += piece.steps;
-        if (piece.code == CODE_FLAG_FOUND && piece.steps > 0)
+        if (piece.code == FLISKADEE_FLAG_UP && piece.steps > 0)
             run_piece(before, piece.steps - 1);
         show_progress(&progress, outcome.steps, count);
-    } while (outcome.code == CODE_DONE && outcome.steps < count);
+    } while (outcome.code == FLISKADEE_DONE && outcome.steps < count);
     end_progress(&progress);
     return outcome;
 }
@@ -463,7 +453,7 @@ static bool confirm_found(const struct machine *before, const struct machine *af
     if (!copy_machine(&again, before))
         return false;
     struct outcome step = run_piece(&again, 1);
-    bool same = step.code == CODE_DONE && memcmp(again.image.data, after->image.data, after->image.length) == 0
+    bool same = step.code == FLISKADEE_DONE && memcmp(again.image.data, after->image.data, after->image.length) == 0
                 && memcmp(again.ram.data, after->ram.data, after->ram.length) == 0;
     if (!same)
         complain("DISAGREEMENT: the step that was found, run alone, leaves another machine than the search; "
@@ -475,7 +465,7 @@ static bool confirm_found(const struct machine *before, const struct machine *af
 static int report_search(unsigned bit, struct outcome outcome, const struct machine *before,
                          const struct machine *after)
 {
-    if (outcome.code == CODE_FLAG_FOUND) {
+    if (outcome.code == FLISKADEE_FLAG_UP) {
         if (!confirm_found(before, after))
             return STATUS_TROUBLE;
         print_found(bit, outcome.steps, before, after);

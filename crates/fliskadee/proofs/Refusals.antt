@@ -13,7 +13,8 @@ use Rattle.control.specs.declared.Control.{Control}
 use Rattle.effects.specs.Effects.{state}
 use Rattle.image.specs.Image.{imageLength, registersIn, controlIn, geometryIn, controlOf, machineOf, formed, wellFormed}
 use Rattle.image.proofs.Formed.{formed-view}
-use Rattle.fliskadee.specs.Answer.{Answer, answer, packed, mostSteps, afterFormed, refusalOf, unlessRefused}
+use Rattle.run.proofs.Same.{search-run}
+use Rattle.fliskadee.specs.Answer.{Answer, answer, packed, mostSteps, afterFormed, refusalOf, unlessRefused, answerOf, findOf}
 
 pub record Passed (m : List ℕ) (len count : ℕ) : Type 0 where
   pub long : length m ≡ imageLength
@@ -67,3 +68,8 @@ pub machine-is : (m r w g : List ℕ) (c : Control) (b : Bool) (len count : ℕ)
 machine-is m r w g c b len count p q u e f h x =
     let t : formed r w g ≡ true = sym f ∙ formed-of b len count h in
     rw (e, formed-view r w g t, p, q, u)
+
+-- ---- with mask 0 no bit ends the run
+pub find-run : (m ram : List ℕ) (count : ℕ) → findOf m ram count 0 ≡ answerOf m ram count
+unfolding findOf answerOf
+find-run m ram count = rw (search-run count (machineOf m ram))

@@ -68,32 +68,8 @@ fn admit(image: &[u8], len: usize, count: u64) -> Admitted
     }
 }
 
-// At most count steps of the machine that an image and RAM describe.
-#[no_mangle]
-pub extern "C" fn fliskadee_run(image: &mut [u8], ram: &mut [u8], count: u64) -> u64
-    ensures { λ n. ⌜ answer n (now (image .exit)) (now (ram .exit)) ≡ answerOf (now (image .entry)) (now (ram .entry)) count ⌝ }
-{
-    let a = admit(image, ram.len(), count);
-    if a.code != 0 {
-        return a.code * 0x10_0000;
-    }
-    let first = a.control;
-    let mut r = a.registers;
-    let mut g = a.geometry;
-    let d = run_until(first, &mut r, &mut g, ram, count, 0);
-    let last = d.control;
-    write_image(image, last, &r, &g);
-    d.code * 0x10_0000 + d.steps
-}
-
-// The same, ended after the first step at which a bit of the mask comes up in FLAG: code 16.
-#[no_mangle]
-pub extern "C" fn fliskadee_find_flag(
-    image: &mut [u8],
-    ram: &mut [u8],
-    count: u64,
-    mask: u32,
-) -> u64
+// The run of the machine that an image and RAM describe, ended by a bit of the mask.
+fn run_with(image: &mut [u8], ram: &mut [u8], count: u64, mask: u32) -> u64
     ensures { λ n. ⌜ answer n (now (image .exit)) (now (ram .exit)) ≡ findOf (now (image .entry)) (now (ram .entry)) count mask ⌝ }
 {
     let a = admit(image, ram.len(), count);
@@ -107,6 +83,27 @@ pub extern "C" fn fliskadee_find_flag(
     let last = d.control;
     write_image(image, last, &r, &g);
     d.code * 0x10_0000 + d.steps
+}
+
+// At most count steps of the machine that an image and RAM describe.
+#[no_mangle]
+pub extern "C" fn fliskadee_run(image: &mut [u8], ram: &mut [u8], count: u64) -> u64
+    ensures { λ n. ⌜ answer n (now (image .exit)) (now (ram .exit)) ≡ answerOf (now (image .entry)) (now (ram .entry)) count ⌝ }
+{
+    run_with(image, ram, count, 0)
+}
+
+// The same, ended after the first step at which a bit of the mask comes up in FLAG: code 16.
+#[no_mangle]
+pub extern "C" fn fliskadee_find_flag(
+    image: &mut [u8],
+    ram: &mut [u8],
+    count: u64,
+    mask: u32,
+) -> u64
+    ensures { λ n. ⌜ answer n (now (image .exit)) (now (ram .exit)) ≡ findOf (now (image .entry)) (now (ram .entry)) count mask ⌝ }
+{
+    run_with(image, ram, count, mask)
 }
 
 // The RAM window, as C can take it: where it begins in RAM, times 2^32, plus its length.

@@ -5,8 +5,8 @@ use borrow.Author.Tests.{eq-eqb}
 use Rattle.fliskadee.specs.Answer.{findOf}
 use Rattle.fliskadee.proofs.Refusals.{passed, small, refused-is}
 use borrow.Author.Needs.{needs}
-use Rattle.fliskadee.proofs.fliskadee_find_flag.Statement.{statement}
-use Rattle.fliskadee.proofs.fliskadee_find_flag.Tie as tie
+use Rattle.fliskadee.proofs.run_with.Statement.{statement}
+use Rattle.fliskadee.proofs.run_with.Tie as tie
 
 admit-requires : tie.Need-admit-requires
 admit-requires c κs = search needs
@@ -47,8 +47,8 @@ returns-2 : tie.Need-returns-2
 unfolding findOf
 returns-2 c = rw (← c .before .before .before .before .before .before .before .before .before .before .before .before .before .before .before .before .before .before .before .before .admit .ensures .0, eq-eqb _ _ (c .before .before .before .before .before .before .before .before .before .before .before .before .before .before .before .before .before .before .if1 .left), ← c .before .before .before .before .before .before .before .before .before .before .before .before .before .before .before .before .before .before .before .before .admit .ensures .1 (c .before .before .before .before .before .before .before .before .before .before .before .before .before .before .before .before .before .before .if1 .left) _, ← c .before .before .before .before .before .before .before .before .before .before .before .run-until .ensures .0, c .before .before .before .before .write-image .ensures)
 
-pub fliskadee-find-flag-spec : {M : Type 1} → statement M
-fliskadee-find-flag-spec =
+pub run-with-spec : {M : Type 1} → statement M
+run-with-spec =
     tie.close
     (tie.spec
     admit-requires
