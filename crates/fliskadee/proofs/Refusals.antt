@@ -6,7 +6,7 @@ use mathlib.Core.List.{List}
 use mathlib.Core.Path.{_≡_, refl, sym, ap, _∙_}
 use lib.Dec.{eqb, leb}
 use lib.ListN.{length}
-use borrow.Author.Tests.{eqb-true, leb-true, eq-eqb, ne-eqb}
+use borrow.Author.Tests.{eqb-true, leb-true, ne-eqb}
 use Rattle.gte_registers.specs.Registers.{view}
 use Rattle.memory.specs.Addresses.{ramLength}
 use Rattle.control.specs.declared.Control.{Control}
@@ -54,9 +54,6 @@ pub refused-is : (code : ℕ) (m ram : List ℕ) (a : Answer) (n : ℕ) → (cod
 refused-is code m ram a n h e =
     let z : n ≡ code * 1048576 + 0 = omega arith in
     rw (ne-eqb code 0 h, z)
-
-pub admitted-is : (code : ℕ) (m ram : List ℕ) (a : Answer) → code ≡ 0 → a ≡ unlessRefused code m ram a
-admitted-is code m ram a h = rw (eq-eqb code 0 h)
 
 -- ---- the machine that was read
 formed-of : (b : Bool) (len count : ℕ) → afterFormed b len count ≡ 0 → b ≡ true

@@ -90,10 +90,6 @@ unfolding runOf
 last-is k s e = last-by (runOf k s .stop) (runOf k s) refl e
 
 -- ---- the step that carries out a listed command
-next-geometry : (s : State) → nextStep s .geometry ≡ s .geometry
-unfolding nextStep
-next-geometry s = refl
-
 effect-is : (o : Op) (word : ℕ) (s : State) (x y z : ℕ) → o ≡ D.Command → outcomeOf word ≡ O.Done → performOf (executeOf o (fieldsOf word) x y z (s .control .product)) s .after .geometry ≡ commandOf word (s .geometry)
 unfolding executeOf performOf fieldsOf nextStep
 effect-is o word s x y z e d = rw (e, d)

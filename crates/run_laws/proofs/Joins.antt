@@ -66,9 +66,6 @@ or-false : (b : Bool) → (b || false) ≡ b
 or-false true = refl
 or-false false = refl
 
-run-is : (r : Run) → r ≡ ran (r .stop) (r .steps) (r .last)
-run-is r = refl
-
 -- one step more of the second run is one step more of both together
 joined-on : (r q : Run) → (r .stop ≡ true → stepOf (q .last) ≡ tick true (q .last)) → onwards (joined r q) ≡ joined r (onwards q)
 unfolding onwards
