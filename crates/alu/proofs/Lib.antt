@@ -1,2 +1,2 @@
-mod Operands
-mod Quotient
+pub mod Operands
+pub mod Words

@@ -1,1 +1,2 @@
 pub mod Alu
+pub mod Modular

@@ -10,7 +10,7 @@
 //   r  a word of the image, and what it is to be    q  an address in RAM, and what its word is to be
 //   k  the last run or search has changed no byte of image and RAM
 ghost use Prim.Native.Nat.{_<_};
-use gte::command::Outcome;
+use gte::Outcome;
 
 // What has been counted, and whether the case that runs has had no difference so far.
 struct Tally {
@@ -138,7 +138,7 @@ fn put(m: &mut [u8], at: usize, v: u32) {
     if n - 4 < at {
         return;
     }
-    words::bytes::put_word(m, at, v);
+    byte_order::put_word(m, at, v);
 }
 
 fn word(m: &[u8], at: usize) -> u32 {
@@ -149,7 +149,7 @@ fn word(m: &[u8], at: usize) -> u32 {
     if n - 4 < at {
         return 0;
     }
-    words::bytes::word_at(m, at)
+    byte_order::word_at(m, at)
 }
 
 // A number that a changed byte changes: each byte has its own weight among the last ones, and all of them are mixed in.
@@ -223,7 +223,7 @@ fn window(ram: &[u8], ram_length: usize, address: u32, n: u32) -> u64 {
 
 // A command is carried out: 0, or 1 where it is not listed.
 fn outcome(g: &mut [u32; 64], word: u32) -> u64 {
-    match gte::command::command(g, word) {
+    match gte::command(g, word) {
         Outcome::Done => 0,
         Outcome::Unlisted => 1,
     }
@@ -300,7 +300,7 @@ fn follow(
 ) -> Case {
     match letter {
         b'g' => {
-            gte_registers::register::write(g, a as usize, b);
+            gte_writes::write(g, a as usize, b);
             x
         }
         b'w' => {
@@ -345,12 +345,7 @@ fn check_line(
     match letter {
         b'x' => counted(
             x,
-            compare(
-                t,
-                a,
-                gte_registers::register::read(g, a as usize) as u64,
-                b as u64,
-            ),
+            compare(t, a, gte_registers::read(g, a as usize) as u64, b as u64),
         ),
         b'a' => counted(x, compare(t, 0, x.answer, join(a, b))),
         b'r' => counted(

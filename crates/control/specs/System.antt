@@ -1,18 +1,15 @@
--- Cop0 and exceptions (01 "One step"; 002's codes).
+-- Cop0 (01 "One step").
 use mathlib.Core.Bool.{Bool, true, cond}
-use mathlib.Core.List.{List, [], _∷_}
-use Prim.Native.Nat.{ℕ, _+_, _*_, _/_, _%_, _^_}
+use mathlib.Core.List.{[], _∷_}
+use Prim.Native.Nat.{ℕ, _+_, _*_, _/_, _%_}
 use lib.Bits.{bitAnd}
-use lib.Dec.{eqb}
 use Rattle.tables.specs.Table.{_⇒_, lookup}
 use Rattle.gte_arithmetic.specs.Checks.{bitAt}
 use Rattle.decode.specs.declared.Owner.{Owner}
 use Rattle.decode.specs.declared.Owner.the-variants.{Processor, Coprocessor0, Coprocessor1, Coprocessor2, Coprocessor3}
-use Rattle.isa.specs.Execute.{add, subtract, bit}
-use Rattle.control.specs.declared.Flow.{Flow}
+use Rattle.alu.specs.Modular.{bit}
 use Rattle.control.specs.declared.Pending.{Pending}
 use Rattle.control.specs.declared.System.{System}
-use Rattle.control.specs.declared.Control.{Control}
 
 -- ---- the mode, and which coprocessors it may use: 0 in kernel mode or by CU0, the others by their CU bit
 abbrev pub userOf : System → Bool
@@ -53,40 +50,6 @@ writeSystemOf n v s =
 unfoldable pub restoredOf : System → System
 restoredOf s = withSr (s .sr / 16 * 16 + s .sr / 4 % 16) s
 
--- ---- an exception of a code; unit is the coprocessor's number for CpU, else 0
-abbrev pub inSlot : Flow → Bool
-inSlot f = eqb (f .slot) 1
-
-unfoldable pub raisedSystem : System → Flow → ℕ → ℕ → System
-raisedSystem s f code unit =
-    record {
-      sr = s .sr / 64 * 64 + s .sr % 16 * 4;
-      cause = bit (inSlot f) * 2 ^ 31 + (unit * 2 ^ 28 + s .cause / 0x100 % 4 * 0x100 + code * 4);
-      epc = cond (inSlot f) (subtract (f .pc) 4) (f .pc);
-      badv = s .badv;
-    }
-
--- by BEV
-unfoldable pub vectorOf : System → ℕ
-vectorOf s = cond (bitAt 22 (s .sr)) 0xbfc0_0180 0x8000_0080
-
+-- no load waits
 abbrev pub none : Pending
 none = record { register = 0; value = 0 }
-
-unfoldable pub raisedOf : Control → ℕ → ℕ → Control
-raisedOf c code unit =
-    record {
-      flow = record { pc = vectorOf (c .system); next = add (vectorOf (c .system)) 4; slot = 0 };
-      pending = none;
-      system = raisedSystem (c .system) (c .flow) code unit;
-      product = c .product;
-    }
-
-abbrev pub withBadAddress : ℕ → Control → Control
-withBadAddress a c =
-    record {
-      flow = c .flow;
-      pending = c .pending;
-      system = record { sr = c .system .sr; cause = c .system .cause; epc = c .system .epc; badv = a };
-      product = c .product;
-    }

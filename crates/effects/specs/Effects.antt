@@ -1,56 +1,10 @@
--- The machine, and what the effects that stay inside the processor do to it (01 "One step").
-use mathlib.Core.Bool.{cond}
-use mathlib.Core.List.{List}
-use Prim.Native.Nat.{ℕ, _%_}
-use lib.Dec.{eqb}
-use lib.ListN.{getD, set}
-use Rattle.alu.specs.declared.HiLo.{HiLo}
-use Rattle.isa.specs.Execute.{add}
-use Rattle.control.specs.System.{none, raisedOf, withBadAddress}
-use Rattle.control.specs.declared.Flow.{Flow}
-use Rattle.control.specs.declared.Pending.{Pending}
+-- What the effects that stay inside the processor do to the machine (01 "One step").
+use Prim.Native.Nat.{ℕ}
+use Rattle.mul_div.specs.declared.HiLo.{HiLo}
+use Rattle.control.specs.System.{none}
 use Rattle.control.specs.declared.System.{System}
-use Rattle.control.specs.declared.Control.{Control}
-
--- registers: the 32 general ones; geometry: the 64 words of COP2 as reads return them
-pub record State : Type 0 where
-  pub control : Control
-  pub registers : List ℕ
-  pub geometry : List ℕ
-  pub ram : List ℕ
-
-abbrev pub state : Control → List ℕ → List ℕ → List ℕ → State
-state c r g m = record { control = c; registers = r; geometry = g; ram = m }
-
--- ---- PC takes next PC; next PC takes itself plus 4, or the target
-abbrev pub onward : Flow → Flow
-onward f = record { pc = f .next; next = add (f .next) 4; slot = 0 }
-
-abbrev pub jumped : Flow → ℕ → Flow
-jumped f target = record { pc = f .next; next = target; slot = 1 }
-
--- ---- the load that waits lands at the end of the instruction after it, unless that one loads the register too
-abbrev pub landed : Pending → List ℕ → List ℕ
-landed p r = set r (p .register % 32) (p .value)
-
-unfoldable pub landedUnless : Pending → List ℕ → ℕ → List ℕ
-landedUnless p r n = cond (eqb (p .register % 32) (n % 32)) r (landed p r)
-
--- register 0 stays 0
-abbrev pub withRegister : List ℕ → ℕ → ℕ → List ℕ
-withRegister r n v = set (set r (n % 32) v) 0 0
-
--- into register 0 nothing is left waiting
-unfoldable pub pendingOf : ℕ → ℕ → Pending
-pendingOf n v = cond (eqb (n % 32) 0) none (record { register = n % 32; value = v })
-
--- what LWL and LWR merge with: the value that waits for the register, or the register
-unfoldable pub currentOf : Pending → List ℕ → ℕ → ℕ
-currentOf p r n = cond (eqb (p .register % 32) (n % 32)) (p .value) (getD r (n % 32) 0)
-
--- ---- what each effect does to the machine
-abbrev pub with : Flow → Pending → Control → Control
-with f p c = record { flow = f; pending = p; system = c .system; product = c .product }
+use Rattle.delay.specs.State.{State, state}
+use Rattle.delay.specs.Delay.{onward, jumped, landed, landedUnless, withRegister, pendingOf, with}
 
 unfoldable pub nextStep : State → State
 nextStep s =
@@ -85,11 +39,3 @@ unfoldable pub waitStep : ℕ → ℕ → State → State
 waitStep n v s =
     state (with (onward (s .control .flow)) (pendingOf n v) (s .control)) (landedUnless (s .control .pending) (s .registers) n) (s .geometry)
     (s .ram)
-
--- an exception: the waiting load lands
-unfoldable pub trapStep : ℕ → ℕ → State → State
-trapStep code unit s = state (raisedOf (s .control) (code % 32) (unit % 4)) (landed (s .control .pending) (s .registers)) (s .geometry) (s .ram)
-
--- an address error has its address in BADV
-unfoldable pub faultStep : ℕ → ℕ → State → State
-faultStep code a s = trapStep code 0 (state (withBadAddress a (s .control)) (s .registers) (s .geometry) (s .ram))

@@ -1,1 +1,1 @@
-pub mod Refusals
+mod Answers

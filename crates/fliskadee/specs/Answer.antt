@@ -2,12 +2,12 @@
 use mathlib.Core.Bool.{Bool, cond}
 use mathlib.Core.List.{List}
 use Prim.Native.Nat.{ℕ, _+_, _*_}
-use lib.Dec.{eqb, leb}
+use lib.Dec.{eqb}
 use lib.ListN.{length}
-use Rattle.memory.specs.Addresses.{ramLength}
-use Rattle.image.specs.Image.{imageLength, wellFormed, machineOf, imageOf}
+use Rattle.image.specs.Image.{machineOf, imageOf}
 use Rattle.run.specs.Run.{Run, runOf}
 use Rattle.run.specs.Search.{Search, searchOf}
+use Rattle.admission.specs.Refusals.{refusalOf}
 
 pub record Answer : Type 0 where
   pub number : ℕ
@@ -20,17 +20,6 @@ answer n i m = record { number = n; image = i; ram = m }
 -- code × 1,048,576 + steps completed
 abbrev pub packed : ℕ → ℕ → ℕ
 packed code steps = code * 1048576 + steps
-
--- ---- refusals
-abbrev pub mostSteps : ℕ
-mostSteps = 1000000
-
--- codes 1 to 4 are tested in the table's order; 0: the call is not refused
-unfoldable pub afterFormed : Bool → ℕ → ℕ → ℕ
-afterFormed formed len count = cond formed (cond (ramLength len) (cond (leb count mostSteps) 0 4) 3) 2
-
-unfoldable pub refusalOf : List ℕ → ℕ → ℕ → ℕ
-refusalOf m len count = cond (eqb (length m) imageLength) (afterFormed (wellFormed m) len count) 1
 
 -- refused: no step is done, and nothing has changed
 abbrev pub unlessRefused : ℕ → List ℕ → List ℕ → Answer → Answer

@@ -1,2 +1,1 @@
-mod Choices
 mod Listed

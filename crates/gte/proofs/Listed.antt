@@ -6,7 +6,7 @@ use Rattle.tables.specs.Table.{NoneOf, lookup-none}
 use Rattle.gte_registers.specs.Registers.{reads}
 use Rattle.gte_inputs.specs.Inputs.{inputsOf}
 use Rattle.gte.specs.Commands.{Command, unlisted, commands, commandIn, listed, leaves, sfOf, lmOf, outcomeOf, commandOf}
-use Rattle.gte.specs.declared.command.Outcome.the-variants.{Done, Unlisted}
+use Rattle.gte.specs.declared.Outcome.the-variants.{Done, Unlisted}
 
 -- a command that is listed is carried out
 pub carried : (k : Command) (word : ℕ) (w x : List ℕ)

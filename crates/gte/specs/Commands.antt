@@ -6,15 +6,20 @@ use lib.IntN.{pos, _*ℤ_}
 use Rattle.tables.specs.Table.{Row, _⇒_, lookup}
 use Rattle.gte_arithmetic.specs.Checks.{Check, bitAt}
 use Rattle.gte_arithmetic.specs.Values.{mac0Checks}
-use Rattle.gte_effects.specs.Effects.{lineLeft, shadeLeft, shadesLeft, vertexLeft, verticesLeft, windingLeft, averageLeft}
-use Rattle.gte_projection.specs.Depth.{windingOf, averageChecks, averageOf}
+use Rattle.gte_effects.specs.Effects.{lineLeft, shadeLeft, shadesLeft}
+use Rattle.gte_vertex_effects.specs.VertexEffects.{vertexLeft, verticesLeft, windingLeft, averageLeft}
+use Rattle.gte_depth.specs.Depth.{windingOf, averageChecks, averageOf}
 use Rattle.gte_colour.specs.Shade.{shadeChecks}
 use Rattle.gte_registers.specs.Registers.{reads}
 use Rattle.gte_inputs.specs.Inputs.{Inputs, inputsOf}
-use Rattle.gte.specs.Values.{vertexAt, vertexChecksAt, mvmvaOf, mvmvaChecks, squareOf, squareChecks, outerOf, outerChecks}
-use Rattle.gte_shading.specs.Shading.{ncsOf, ncsChecks, nccsOf, nccsChecks, ncdsOf, ncdsChecks, ccOf, ccChecks, cdpOf, cdpChecks, depthCuedChecks, dcplFrom, dcplOf, intplFrom, intplOf, dpcsFrom, dpcsOf, dpctFrom, dpctOf, gpfFrom, gpfOf, gplFrom, gplOf}
-use Rattle.gte.specs.declared.command.Outcome.{Outcome}
-use Rattle.gte.specs.declared.command.Outcome.the-variants.{Done, Unlisted}
+use Rattle.gte_vertices.specs.Vertices.{vertexAt, vertexChecksAt}
+use Rattle.gte_mvmva.specs.Multiply.{mvmvaOf, mvmvaChecks}
+use Rattle.gte_sqr_op.specs.SqrOp.{squareOf, squareChecks, outerOf, outerChecks}
+use Rattle.gte_normals.specs.Normals.{ncsOf, ncsChecks, nccsOf, nccsChecks, ncdsOf, ncdsChecks}
+use Rattle.gte_shading.specs.Shading.{ccOf, ccChecks, cdpOf, cdpChecks, gpfFrom, gpfOf, gplFrom, gplOf}
+use Rattle.gte_cueing.specs.Cueing.{depthCuedChecks, dcplFrom, dcplOf, intplFrom, intplOf, dpcsFrom, dpcsOf, dpctFrom, dpctOf}
+use Rattle.gte.specs.declared.Outcome.{Outcome}
+use Rattle.gte.specs.declared.Outcome.the-variants.{Done, Unlisted}
 
 -- ---- the command word
 abbrev pub sfOf : ℕ → Bool

@@ -1,4 +1,88 @@
-// The 22 commands of COP2, over 64 words that the caller lends (crate gte_registers says what the words stand for).
-pub mod command;
-mod line;
-mod vertex;
+// A command word is carried out.
+ghost use mathlib.Core.Path.{_≡_};
+ghost use Rattle.gte_arithmetic.specs.Checks.{bitAt};
+ghost use Rattle.gte_registers.specs.Registers.{view};
+ghost use Rattle.gte.specs.Commands.{outcomeOf, commandOf};
+use gte_cueing::dcpl;
+use gte_cueing::dpcs;
+use gte_cueing::dpct;
+use gte_cueing::intpl;
+use gte_mvmva::mvmva;
+use gte_normals::nccs;
+use gte_normals::ncct;
+use gte_normals::ncds;
+use gte_normals::ncdt;
+use gte_normals::ncs;
+use gte_normals::nct;
+use gte_shading::cc;
+use gte_shading::cdp;
+use gte_shading::gpf;
+use gte_shading::gpl;
+use gte_sqr_op::op;
+use gte_sqr_op::sqr;
+use gte_vertices::avsz3;
+use gte_vertices::avsz4;
+use gte_vertices::nclip;
+use gte_vertices::rtps;
+use gte_vertices::rtpt;
+
+// Carried out, or not listed: then nothing has changed.
+pub enum Outcome {
+    Done,
+    Unlisted,
+}
+
+fn bit_19(word: u32) -> bool
+    ensures { λ r. ⌜ r ≡ bitAt 19 word ⌝ }
+{
+    word / 0x8_0000 % 2 == 1
+}
+
+fn bit_10(word: u32) -> bool
+    ensures { λ r. ⌜ r ≡ bitAt 10 word ⌝ }
+{
+    word / 0x400 % 2 == 1
+}
+
+pub fn command(c: &mut [u32; 64], word: u32) -> Outcome
+    ensures is { λ r. ⌜ r ≡ outcomeOf word ⌝ }
+    ensures after { λ _. ⌜ view (now (c .exit)) ≡ commandOf word (view (now (c .entry))) ⌝ }
+{
+    let sf = bit_19(word);
+    let lm = bit_10(word);
+    match word % 64 {
+        0x01 => rtps(c, sf),
+        0x06 => nclip(c),
+        0x0c => op(c, sf, lm),
+        0x10 => dpcs(c, sf, lm),
+        0x11 => intpl(c, sf, lm),
+        0x12 => mvmva(
+            c,
+            word / 0x2_0000 % 4,
+            word / 0x8000 % 4,
+            word / 0x2000 % 4,
+            sf,
+            lm,
+        ),
+        0x13 => ncds(c, sf, lm),
+        0x14 => cdp(c, sf, lm),
+        0x16 => ncdt(c, sf, lm),
+        0x1b => nccs(c, sf, lm),
+        0x1c => cc(c, sf, lm),
+        0x1e => ncs(c, sf, lm),
+        0x20 => nct(c, sf, lm),
+        0x28 => sqr(c, sf, lm),
+        0x29 => dcpl(c, sf, lm),
+        0x2a => dpct(c, sf, lm),
+        0x2d => avsz3(c),
+        0x2e => avsz4(c),
+        0x30 => rtpt(c, sf),
+        0x3d => gpf(c, sf, lm),
+        0x3e => gpl(c, sf, lm),
+        0x3f => ncct(c, sf, lm),
+        _ => {
+            return Outcome::Unlisted;
+        }
+    }
+    Outcome::Done
+}

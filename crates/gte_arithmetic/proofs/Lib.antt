@@ -1,3 +1,2 @@
 pub mod Flags
 mod Levels
-pub mod Plain

@@ -1,4 +1,2 @@
 pub mod Checks
 pub mod Values
-pub mod Sums
-pub mod Line

@@ -5,11 +5,11 @@ use Prim.Native.Nat.{ℕ, _+_, _*_, _/_}
 use lib.IntN.{ℤ, pos, _+ℤ_, _-ℤ_, _*ℤ_}
 use Rattle.gte_arithmetic.specs.Checks.{Check, flags}
 use Rattle.gte_arithmetic.specs.Values.{macOf, colourOf, sumChecks, irCheck, colourCheck}
-use Rattle.gte_arithmetic.specs.Line.{macsOf, irsOf, lineChecks}
-use Rattle.gte_arithmetic.specs.declared.sums.Long.{Long}
-use Rattle.gte_arithmetic.specs.declared.sums.Wide.{Wide}
-use Rattle.gte_colour.specs.declared.shade.Shade.{Shade}
-use Rattle.gte_colour.specs.declared.shade.Mixed.{Mixed}
+use Rattle.gte_line.specs.Line.{macsOf, irsOf, lineChecks}
+use Rattle.gte_sums.specs.declared.Long.{Long}
+use Rattle.gte_sums.specs.declared.Wide.{Wide}
+use Rattle.gte_colour.specs.declared.Shade.{Shade}
+use Rattle.gte_colour.specs.declared.Mixed.{Mixed}
 
 -- FC·1000h - MAC, a tested MAC value
 unfoldable pub farther : Long → Wide → Wide

@@ -2,15 +2,12 @@
 use mathlib.Core.Path.{_≡_, ap, _∙_}
 use mathlib.Core.List.{List}
 use Prim.Native.Nat.{ℕ}
-use lib.IntN.{ℤ}
 use lib.ListN.{length}
-use Rattle.gte_arithmetic.specs.declared.line.Line.{Line}
-use Rattle.gte_projection.specs.declared.vertex.Vertex.{Vertex}
-use Rattle.gte_projection.specs.declared.depth.Average.{Average}
-use Rattle.gte_colour.specs.declared.shade.Shade.{Shade}
-use Rattle.gte_registers.specs.Registers.{kinds, readOf, reads, view, pushedXY}
-use Rattle.gte_registers.proofs.Views.{short-short, half-half, fields-short, from, spelt}
-use Rattle.gte_effects.specs.Effects.{stored, flagged, pushedZ, pushedColour, lineLeft, shadeLeft, shadesLeft, pushedVertex, vertexKept, vertexLeft, verticesLeft, windingLeft, averageLeft}
+use Rattle.gte_line.specs.declared.Line.{Line}
+use Rattle.gte_colour.specs.declared.Shade.{Shade}
+use Rattle.gte_registers.specs.Registers.{kinds, readOf, reads, view}
+use Rattle.gte_registers.proofs.Views.{short-short, half-half, from, spelt}
+use Rattle.gte_effects.specs.Effects.{stored, flagged, pushedColour, lineLeft, shadeLeft, shadesLeft}
 
 -- ---- what a command leaves: over the elements, then over a list of 64
 line-seen : (l : Line) (s : List ℕ) → reads (lineLeft l (from 64 0 s)) ≡ reads (lineLeft l (reads s))
@@ -36,35 +33,3 @@ shades-seen x y z s = simp (short-short, half-half)
 pub shades-view : (x y z : Shade) (s : List ℕ) → length s ≡ 64 → view (shadesLeft x y z s) ≡ reads (shadesLeft x y z (view s))
 unfolding view
 shades-view x y z s h = ap (λ (t : List ℕ). reads (shadesLeft x y z t)) (spelt s h) ∙ shades-seen x y z s
-
-vertex-seen : (x : Vertex) (s : List ℕ) → reads (vertexLeft x (from 64 0 s)) ≡ reads (vertexLeft x (reads s))
-unfolding reads readOf kinds vertexLeft vertexKept pushedVertex stored flagged pushedZ pushedXY
-vertex-seen x s = simp (short-short, half-half)
-
-pub vertex-view : (x : Vertex) (s : List ℕ) → length s ≡ 64 → view (vertexLeft x s) ≡ reads (vertexLeft x (view s))
-unfolding view
-vertex-view x s h = ap (λ (t : List ℕ). reads (vertexLeft x t)) (spelt s h) ∙ vertex-seen x s
-
-vertices-seen : (x y z : Vertex) (s : List ℕ) → reads (verticesLeft x y z (from 64 0 s)) ≡ reads (verticesLeft x y z (reads s))
-unfolding reads readOf kinds verticesLeft vertexKept pushedVertex stored flagged pushedZ pushedXY
-vertices-seen x y z s = simp (short-short, half-half)
-
-pub vertices-view : (x y z : Vertex) (s : List ℕ) → length s ≡ 64 → view (verticesLeft x y z s) ≡ reads (verticesLeft x y z (view s))
-unfolding view
-vertices-view x y z s h = ap (λ (t : List ℕ). reads (verticesLeft x y z t)) (spelt s h) ∙ vertices-seen x y z s
-
-winding-seen : (x : ℤ) (s : List ℕ) → reads (windingLeft x (from 64 0 s)) ≡ reads (windingLeft x (reads s))
-unfolding reads readOf kinds windingLeft flagged
-winding-seen x s = simp (short-short, half-half, fields-short)
-
-pub winding-view : (x : ℤ) (s : List ℕ) → length s ≡ 64 → view (windingLeft x s) ≡ reads (windingLeft x (view s))
-unfolding view
-winding-view x s h = ap (λ (t : List ℕ). reads (windingLeft x t)) (spelt s h) ∙ winding-seen x s
-
-average-seen : (x : Average) (s : List ℕ) → reads (averageLeft x (from 64 0 s)) ≡ reads (averageLeft x (reads s))
-unfolding reads readOf kinds averageLeft flagged
-average-seen x s = simp (short-short, half-half, fields-short)
-
-pub average-view : (x : Average) (s : List ℕ) → length s ≡ 64 → view (averageLeft x s) ≡ reads (averageLeft x (view s))
-unfolding view
-average-view x s h = ap (λ (t : List ℕ). reads (averageLeft x t)) (spelt s h) ∙ average-seen x s

@@ -1,19 +1,16 @@
-// What commands write to the 64 words.
+// What commands write to the 64 words: MAC, IR, the colour FIFO and FLAG.
 ghost use mathlib.Core.Path.{_≡_};
 ghost use Rattle.gte_registers.specs.Registers.{view, reads};
-ghost use Rattle.gte_effects.specs.Effects.{stored, pushedZ, pushedColour, lineLeft, shadeLeft, shadesLeft, pushedVertex, vertexKept, vertexLeft, verticesLeft, averageLeft};
-use gte_arithmetic::line::Line;
-use gte_arithmetic::sums::Long;
-use gte_arithmetic::sums::Vector;
-use gte_colour::shade::Shade;
-use gte_projection::depth::Average;
-use gte_projection::vertex::Vertex;
-use gte_registers::register::push_xy;
-use gte_registers::register::sized;
-use words::sign::to_bits;
+ghost use Rattle.gte_effects.specs.Effects.{stored, pushedColour, lineLeft, shadeLeft, shadesLeft};
+use gte_colour::Shade;
+use gte_line::Line;
+use gte_registers::sized;
+use gte_sums::Long;
+use gte_sums::Vector;
+use words::to_bits;
 
 // MAC1..3 and IR1..3 are written.
-fn store(c: &mut [u32; 64], m: Long, i: Vector)
+pub fn store(c: &mut [u32; 64], m: Long, i: Vector)
     ensures { λ _. ⌜ now (c .exit) ≡ stored m i (now (c .entry)) ⌝ }
 {
     c[25] = to_bits(m.x);
@@ -69,63 +66,4 @@ pub fn leave_shades(c: &mut [u32; 64], p: Shade, q: Shade, r: Shade)
     push_colour(c, r.rgb);
     store(c, m, i);
     c[63] = p.flag | (q.flag | r.flag);
-}
-
-fn push_z(c: &mut [u32; 64], z: u32)
-    ensures { λ _. ⌜ now (c .exit) ≡ pushedZ z (now (c .entry)) ⌝ }
-{
-    let z1 = c[17];
-    let z2 = c[18];
-    let z3 = c[19];
-    c[16] = z1;
-    c[17] = z2;
-    c[18] = z3;
-    c[19] = z;
-}
-
-// The queues take a vertex.
-fn push_vertex(c: &mut [u32; 64], v: Vertex)
-    ensures { λ _. ⌜ now (c .exit) ≡ pushedVertex v (now (c .entry)) ⌝ }
-{
-    push_z(c, v.sz);
-    push_xy(c, v.xy);
-}
-
-// The registers that a vertex leaves beside the queues.
-fn keep_vertex(c: &mut [u32; 64], v: Vertex, flag: u32)
-    ensures { λ _. ⌜ now (c .exit) ≡ vertexKept v flag (now (c .entry)) ⌝ }
-{
-    let m = v.mac;
-    let i = v.ir;
-    c[24] = to_bits(v.mac0);
-    c[8] = v.ir0;
-    store(c, m, i);
-    c[63] = flag;
-}
-
-pub fn leave_vertex(c: &mut [u32; 64], v: Vertex)
-    ensures { λ _. ⌜ view (now (c .exit)) ≡ reads (vertexLeft v (view (now (c .entry)))) ⌝ }
-{
-    sized(c);
-    push_vertex(c, v);
-    keep_vertex(c, v, v.flag);
-}
-
-pub fn leave_vertices(c: &mut [u32; 64], p: Vertex, q: Vertex, r: Vertex)
-    ensures { λ _. ⌜ view (now (c .exit)) ≡ reads (verticesLeft p q r (view (now (c .entry)))) ⌝ }
-{
-    sized(c);
-    push_vertex(c, p);
-    push_vertex(c, q);
-    push_vertex(c, r);
-    keep_vertex(c, r, p.flag | (q.flag | r.flag));
-}
-
-pub fn leave_average(c: &mut [u32; 64], a: Average)
-    ensures { λ _. ⌜ view (now (c .exit)) ≡ reads (averageLeft a (view (now (c .entry)))) ⌝ }
-{
-    sized(c);
-    c[24] = to_bits(a.mac0);
-    c[7] = a.otz;
-    c[63] = a.flag;
 }

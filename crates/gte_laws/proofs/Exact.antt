@@ -10,22 +10,26 @@ use lib.IntN.{ℤ}
 use lib.ListN.{length}
 use Rattle.gte_arithmetic.specs.Checks.{Check, or, flags, flagWord, bitAt, counted}
 use Rattle.gte_arithmetic.specs.Values.{mac0Checks}
-use Rattle.gte_arithmetic.specs.declared.line.Line.{Line}
+use Rattle.gte_line.specs.declared.Line.{Line}
 use Rattle.gte_arithmetic.proofs.Flags.{flags-bit, flags-++, flag-word-bit, clear-31, clear-all}
 use Rattle.gte_projection.specs.Projection.{vertexOf}
-use Rattle.gte_projection.specs.Depth.{averageChecks, averageOf}
-use Rattle.gte_projection.specs.declared.vertex.Vertex.{Vertex}
-use Rattle.gte_projection.specs.declared.depth.Average.{Average}
-use Rattle.gte_colour.specs.declared.shade.Shade.{Shade}
+use Rattle.gte_depth.specs.Depth.{averageChecks, averageOf}
+use Rattle.gte_projection.specs.declared.Vertex.{Vertex}
+use Rattle.gte_depth.specs.declared.Average.{Average}
+use Rattle.gte_colour.specs.declared.Shade.{Shade}
 use Rattle.gte_registers.specs.Registers.{reg, kinds, readOf, reads, pushedXY}
 use Rattle.gte_registers.proofs.Views.{spelt}
 use Rattle.gte_inputs.specs.Inputs.{Inputs, inputsOf}
-use Rattle.gte_effects.specs.Effects.{stored, flagged, pushedZ, pushedColour, lineLeft, shadeLeft, shadesLeft, pushedVertex, vertexKept, vertexLeft, verticesLeft, windingLeft, averageLeft}
-use Rattle.gte_shading.specs.Shading.{ncsOf, ncsChecks, nccsOf, nccsChecks, ncdsOf, ncdsChecks, ccOf, cdpOf, depthCued, depthCuedChecks, dpctFrom, dpctOf, gpfOf, gplOf}
-use Rattle.gte.specs.Values.{farOf, multipliedOf, mvmvaOf, squareOf, outerOf}
+use Rattle.gte_effects.specs.Effects.{stored, flagged, pushedColour, lineLeft, shadeLeft, shadesLeft}
+use Rattle.gte_vertex_effects.specs.VertexEffects.{pushedZ, pushedVertex, vertexKept, vertexLeft, verticesLeft, windingLeft, averageLeft}
+use Rattle.gte_normals.specs.Normals.{ncsOf, ncsChecks, nccsOf, nccsChecks, ncdsOf, ncdsChecks}
+use Rattle.gte_shading.specs.Shading.{ccOf, cdpOf, gpfOf, gplOf}
+use Rattle.gte_cueing.specs.Cueing.{depthCued, depthCuedChecks, dpctFrom, dpctOf}
+use Rattle.gte_mvmva.specs.Multiply.{farOf, multipliedOf, mvmvaOf}
+use Rattle.gte_sqr_op.specs.SqrOp.{squareOf, outerOf}
 use Rattle.gte.specs.Commands.{Command, RTPS, NCLIP, OP, DPCS, INTPL, MVMVA, NCDS, CDP, NCDT, NCCS, CC, NCS, NCT, SQR, DCPL, DPCT, AVSZ3, AVSZ4, RTPT, GPF, GPL, NCCT, unlisted, commandIn, sfOf, lmOf, cvOf, leaves, checksOf, listed, outcomeOf, commandOf}
-use Rattle.gte.specs.declared.command.Outcome.{Outcome}
-use Rattle.gte.specs.declared.command.Outcome.the-variants.{Done, Unlisted}
+use Rattle.gte.specs.declared.Outcome.{Outcome}
+use Rattle.gte.specs.declared.Outcome.the-variants.{Done, Unlisted}
 use Rattle.gte_laws.specs.Exact.{checksAt, Demand2}
 
 -- ---- register 63 of what each family of commands leaves

@@ -4,8 +4,8 @@ use Prim.Native.Nat.{ℕ}
 use Rattle.gte_registers.specs.Registers.{reads, WellFormed, writeOf}
 use Rattle.gte_registers.proofs.Views.{reads-reads}
 use Rattle.gte.specs.Commands.{ifDone, outcomeOf, commandOf}
-use Rattle.gte.specs.declared.command.Outcome.{Outcome}
-use Rattle.gte.specs.declared.command.Outcome.the-variants.{Done, Unlisted}
+use Rattle.gte.specs.declared.Outcome.{Outcome}
+use Rattle.gte.specs.declared.Outcome.the-variants.{Done, Unlisted}
 
 pub write-formed : (w : List ℕ) (i x : ℕ) → WellFormed (writeOf w i x)
 unfolding writeOf

@@ -12,7 +12,7 @@ use Rattle.gte_arithmetic.specs.Checks.{bitAt}
 use Rattle.words.specs.Words.{lowSigned, highHalf}
 use Rattle.gte_registers.specs.Registers.{reg}
 use Rattle.gte_inputs.specs.Inputs.{inputsOf}
-use Rattle.gte.specs.Values.{rotated}
+use Rattle.gte_vertices.specs.Vertices.{rotated}
 use Rattle.gte.specs.Commands.{Command, RTPS, RTPT, commandIn, sfOf, commandOf}
 
 -- one and a quarter pixels, in 1/65,536 of a pixel

@@ -9,7 +9,7 @@ use Rattle.gte_arithmetic.specs.Checks.{Check, bitAt, counted, some}
 use Rattle.gte_registers.specs.Registers.{reg}
 use Rattle.gte_inputs.specs.Inputs.{inputsOf}
 use Rattle.gte.specs.Commands.{commandIn, sfOf, lmOf, checksOf, outcomeOf, commandOf}
-use Rattle.gte.specs.declared.command.Outcome.the-variants.{Done}
+use Rattle.gte.specs.declared.Outcome.the-variants.{Done}
 
 -- the checks of a command word over 64 words
 abbrev pub checksAt : ℕ → List ℕ → List Check

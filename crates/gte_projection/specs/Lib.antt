@@ -1,2 +1,1 @@
 pub mod Projection
-pub mod Depth

@@ -1,4 +1,3 @@
 mod Leading
 mod Reading
 pub mod Views
-mod Writing

@@ -6,9 +6,9 @@ use mathlib.Core.Path.{_≡_, sym, ap, _∙_}
 use lib.ListN.{length, take, drop, length-append}
 use lib.Seq.{take-append-seam, drop-append-seam}
 use Rattle.gte_registers.specs.Registers.{view}
-use Rattle.image.proofs.Words.{view-long}
-use Rattle.words.specs.Bytes.{wordsAt, bytesOf, setWords}
-use Rattle.words.proofs.Rows.{set-append, set-all, read-append, length-wordsAt, words-back}
+use Rattle.gte_reads.proofs.Taking.{view-long}
+use Rattle.byte_order.specs.Bytes.{wordsAt, bytesOf, setWords}
+use Rattle.byte_order.proofs.Rows.{set-append, set-all, read-append, length-wordsAt, words-back}
 
 -- three rows written behind each other fill the image, whatever stood there
 pub whole : (m a b d : List ℕ) (p q : ℕ) → 4 * length a ≡ p → p + 4 * length b ≡ q → length m ≡ q + 4 * length d → setWords (setWords (setWords m 0 a) p b) q d ≡ bytesOf (a ++ (b ++ d))

@@ -1,60 +1,31 @@
 -- What each instruction does, from its fields, its operands and the state before it (01 "One step").
 use mathlib.Core.Bool.{Bool, cond, not}
-use Prim.Native.Nat.{ℕ, _+_, _-_, _*_, _/_, _%_, _^_, _<_}
+use Prim.Native.Nat.{ℕ, _+_, _-_, _*_, _/_, _%_, _^_}
 use lib.Bits.{bitAnd, bitOr, bitXor}
 use lib.Dec.{eqb, ltb}
 use lib.IntN.{pos}
 use lib.Signed.{ltZ}
-use mir.Syntax.{w16, w32}
+use mir.Syntax.{w32}
 use mir.Val.{toZ}
-use Rattle.words.specs.Words.{signExtend, sraOf}
-use Rattle.alu.specs.Alu.{sumOf, differenceOf, lessOf, productOf, unsignedProductOf, quotientOf, unsignedQuotientOf}
-use Rattle.alu.specs.declared.HiLo.{HiLo}
+use Rattle.shifts.specs.Shifts.{sraOf}
+use Rattle.alu.specs.Alu.{sumOf, differenceOf, lessOf}
+use Rattle.mul_div.specs.MulDiv.{productOf, unsignedProductOf, quotientOf, unsignedQuotientOf}
+use Rattle.mul_div.specs.declared.HiLo.{HiLo}
 use Rattle.alu.specs.declared.Sum.{Sum}
 use Rattle.alu.specs.declared.Sum.the-variants.{Value, Overflow}
-use Rattle.memory.specs.declared.Virt.{Virt}
-use Rattle.memory.specs.declared.LoadKind.the-variants as L
-use Rattle.memory.specs.declared.StoreKind.the-variants as S
+use Rattle.addresses.specs.declared.Virt.{Virt}
+use Rattle.loads.specs.declared.LoadKind.the-variants as L
+use Rattle.stores.specs.declared.StoreKind.the-variants as S
 use Rattle.decode.specs.declared.Op.{Op}
 use Rattle.decode.specs.declared.Op.the-variants as O
-use Rattle.isa.specs.declared.Fields.{Fields}
+use Rattle.fields.specs.declared.Fields.{Fields}
 use Rattle.isa.specs.declared.Effect.{Effect}
 use Rattle.isa.specs.declared.Effect.the-variants.{Write, Jump, Link, Product, Load, Store, Trap, ReadSystem, WriteSystem, Restore, ReadGeometry, WriteGeometry, Command, LoadGeometry, StoreGeometry}
-
--- ---- the fields of a word; a branch's offset is four times the immediate with its sign
-unfoldable pub fieldsOf : ℕ → Fields
-fieldsOf word =
-    record {
-      rt = word / 0x1_0000 % 32;
-      rd = word / 0x800 % 32;
-      shift = word / 64 % 32;
-      immediate = word % 0x1_0000;
-      extended = signExtend w16 word;
-      offset = signExtend w16 word * 2 ^ 2 % 2 ^ 32;
-      target = word % 0x400_0000 * 4;
-      word = word;
-    }
-
--- what the widths of the fields give
-pub record FieldsOk (f : Fields) : Type 0 where
-  pub register : f .rd < 32
-  pub amount : f .shift < 32
-  pub half : f .immediate < 0x1_0000
-  pub jump : f .target < 0x1000_0000
-
--- ---- sums and differences are modulo 2^32
-abbrev pub add : ℕ → ℕ → ℕ
-add a b = (a + b) % 2 ^ 32
-
-abbrev pub subtract : ℕ → ℕ → ℕ
-subtract a b = (a + (2 ^ 32 - b)) % 2 ^ 32
+use Rattle.alu.specs.Modular.{add, subtract, bit}
 
 -- base plus offset
 abbrev pub at : ℕ → Fields → Virt
 at a f = record { 0 = add a (f .extended) }
-
-abbrev pub bit : Bool → ℕ
-bit t = cond t 1 0
 
 -- the signed result, or a trap that writes nothing
 abbrev pub orTrap : ℕ → Sum → Effect

@@ -1,26 +1,27 @@
 // What an instruction does, with its operands read.
 ghost use mathlib.Core.Path.{_≡_};
-ghost use Prim.Native.Nat.{_<_};
 ghost use lib.Dec.{ltb};
-ghost use Rattle.isa.specs.Execute.{fieldsOf, FieldsOk, bit, orTrap, negativeOf, positiveOf, targetOf, executeOf};
-use alu::HiLo;
+ghost use Rattle.fields.specs.Fields.{FieldsOk};
+ghost use Rattle.alu.specs.Modular.{bit};
+ghost use Rattle.isa.specs.Execute.{orTrap, negativeOf, positiveOf, targetOf, executeOf};
+use addresses::Virt;
 use alu::Sum;
 use alu::add_signed;
-use alu::divide;
-use alu::divide_unsigned;
 use alu::less_signed;
-use alu::multiply;
-use alu::multiply_unsigned;
 use alu::sub_signed;
 use decode::Op;
-use memory::LoadKind;
-use memory::StoreKind;
-use memory::Virt;
+use fields::Fields;
+use loads::LoadKind;
+use mul_div::HiLo;
+use mul_div::divide;
+use mul_div::divide_unsigned;
+use mul_div::multiply;
+use mul_div::multiply_unsigned;
+use shifts::sra;
 use std::num::wrapping_add_u32;
 use std::num::wrapping_sub_u32;
-use words::shift::sra;
-use words::sign::sign_extend_16;
-use words::sign::to_signed;
+use stores::StoreKind;
+use words::to_signed;
 
 pub enum Effect {
     // register, value
@@ -44,35 +45,6 @@ pub enum Effect {
     Command(u32),
     LoadGeometry(usize, Virt),
     StoreGeometry(usize, Virt),
-}
-
-pub struct Fields {
-    pub rt: usize,
-    pub rd: usize,
-    pub shift: u32,
-    pub immediate: u32,
-    pub extended: u32,
-    pub offset: u32,
-    pub target: u32,
-    pub word: u32,
-}
-
-// The fields of a word that instructions use.
-pub fn fields_of(word: u32) -> Fields
-    ensures is { λ r. ⌜ r ≡ fieldsOf word ⌝ }
-    ensures widths { λ r. ⌜ FieldsOk r ⌝ }
-{
-    let extended = sign_extend_16(word);
-    Fields {
-        rt: (word / 0x1_0000 % 32) as usize,
-        rd: (word / 0x800 % 32) as usize,
-        shift: word / 64 % 32,
-        immediate: word % 0x1_0000,
-        extended: extended,
-        offset: extended << 2,
-        target: word % 0x400_0000 * 4,
-        word: word,
-    }
 }
 
 // SLTU and SLTIU.

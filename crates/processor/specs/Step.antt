@@ -3,26 +3,31 @@ use mathlib.Core.Bool.{Bool, true, false, cond}
 use mathlib.Core.List.{List}
 use Prim.Native.Nat.{ℕ, _%_}
 use lib.ListN.{length, getD}
-use Rattle.memory.specs.Addresses.{placeOf}
-use Rattle.memory.specs.Access.{loadAlign, storeAlign, loadOf, storeOf, ramAfter}
-use Rattle.memory.specs.declared.LoadKind.{LoadKind}
-use Rattle.memory.specs.declared.LoadKind.the-variants as K
-use Rattle.memory.specs.declared.StoreKind.{StoreKind}
-use Rattle.memory.specs.declared.StoreKind.the-variants as W
-use Rattle.memory.specs.declared.Loaded.{Loaded}
-use Rattle.memory.specs.declared.Loaded.the-variants as L
-use Rattle.memory.specs.declared.Stored.{Stored}
-use Rattle.memory.specs.declared.Stored.the-variants as S
+use Rattle.addresses.specs.Addresses.{placeOf}
+use Rattle.loads.specs.Loads.{loadAlign, loadOf}
+use Rattle.stores.specs.Stores.{storeAlign, storeOf, ramAfter}
+use Rattle.loads.specs.declared.LoadKind.{LoadKind}
+use Rattle.loads.specs.declared.LoadKind.the-variants as K
+use Rattle.stores.specs.declared.StoreKind.{StoreKind}
+use Rattle.stores.specs.declared.StoreKind.the-variants as W
+use Rattle.loads.specs.declared.Loaded.{Loaded}
+use Rattle.loads.specs.declared.Loaded.the-variants as L
+use Rattle.stores.specs.declared.Stored.{Stored}
+use Rattle.stores.specs.declared.Stored.the-variants as S
 use Rattle.decode.specs.Decode.{decodeOf, ownerOf, rs, rt}
-use Rattle.isa.specs.Execute.{fieldsOf, executeOf}
+use Rattle.fields.specs.Fields.{fieldsOf}
+use Rattle.isa.specs.Execute.{executeOf}
 use Rattle.isa.specs.declared.Effect.{Effect}
 use Rattle.isa.specs.declared.Effect.the-variants as E
 use Rattle.gte_registers.specs.Registers.{reg, writeOf}
 use Rattle.gte.specs.Commands.{outcomeOf, commandOf}
-use Rattle.gte.specs.declared.command.Outcome.{Outcome}
-use Rattle.gte.specs.declared.command.Outcome.the-variants as O
+use Rattle.gte.specs.declared.Outcome.{Outcome}
+use Rattle.gte.specs.declared.Outcome.the-variants as O
 use Rattle.control.specs.System.{userOf, usableOf, numberOf, readSystemOf, writeSystemOf, restoredOf}
-use Rattle.effects.specs.Effects.{State, state, currentOf, nextStep, writeStep, jumpStep, linkStep, productStep, systemStep, waitStep, trapStep, faultStep}
+use Rattle.delay.specs.State.{State, state}
+use Rattle.delay.specs.Delay.{currentOf}
+use Rattle.effects.specs.Effects.{nextStep, writeStep, jumpStep, linkStep, productStep, systemStep, waitStep}
+use Rattle.traps.specs.Traps.{trapStep, faultStep}
 
 -- ---- what the effects that reach memory or COP2 do
 abbrev pub geometryStep : List ℕ → State → State

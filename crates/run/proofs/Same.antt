@@ -5,7 +5,7 @@ use mathlib.Core.Path.{_≡_, refl, sym, ap, _∙_}
 use lib.Bits.{bitAnd, and-zero-r}
 use lib.Dec.{eqb}
 use Rattle.gte_registers.specs.Registers.{reg}
-use Rattle.effects.specs.Effects.{State}
+use Rattle.delay.specs.State.{State}
 use Rattle.processor.specs.Step.{Tick, stepOf}
 use Rattle.run.specs.Run.{Run, ran, further, onwards, runOf}
 use Rattle.run.specs.Search.{clearOf, risesOf, foundOf, Search, sought, furtherBy, searchOn, searchOf, searchedBy}

@@ -8,7 +8,7 @@ use mathlib.Core.List.{List}
 use mathlib.Core.Path.{_≡_, refl, sym, ap, _∙_}
 use lib.Dec.{eqb}
 use lib.ListN.{length}
-use Rattle.effects.specs.Effects.{State}
+use Rattle.delay.specs.State.{State}
 use Rattle.processor.specs.Step.{Tick, tick, stepOf}
 use Rattle.run.specs.Search.{clearOf, risesOf, foundOf, Search, sought, furtherBy, searchOn, searchOf}
 
@@ -25,26 +25,30 @@ none mask s = refl
 
 one-more : (mask i : ℕ) (s₀ s : State) (t : Tick) → searchOf mask i s₀ ≡ sought 0 i s → t ≡ stepOf s → searchOf mask (i + 1) s₀ ≡ furtherBy mask (sought 0 i s) t
 unfolding searchOf searchOn
-one-more mask i s₀ s t h e = ap (λ (n : ℕ). searchOf mask n s₀) (add-one i) ∙ rw (h, e)
+one-more mask i s₀ s t h e = ap (λ (n : ℕ). searchOf mask n s₀) (add-one i) ∙ ap (searchOn mask) h ∙ ap (furtherBy mask (sought 0 i s)) (sym e)
 
 -- the step completes: the search is at its machine, ended if a bit comes up
 pub goes-on : (mask i : ℕ) (s₀ s s₁ : State) (b x : Bool) → searchOf mask i s₀ ≡ sought 0 i s → tick b s₁ ≡ stepOf s → b ≡ false → risesOf mask s s₁ ≡ x → searchOf mask (i + 1) s₀ ≡ sought (foundOf x) (i + 1) s₁
-goes-on mask i s₀ s s₁ b x h e f r = one-more mask i s₀ s (tick b s₁) h e ∙ rw (f, r)
+goes-on mask i s₀ s s₁ b x h e f r = one-more mask i s₀ s (tick b s₁) h e ∙ ap (λ (q : Bool). furtherBy mask (sought 0 i s) (tick q s₁)) f ∙ ap (λ (q : Bool). sought (foundOf q) (i + 1) s₁) r
+
+ended : (mask : ℕ) (r : Search) → eqb (r .code) 0 ≡ false → searchOn mask r ≡ r
+unfolding searchOn
+ended mask r h = ap (λ (b : Bool). cond b (furtherBy mask r (stepOf (r .last))) r) h
 
 stays : (mask n d : ℕ) (s : State) → eqb (searchOf mask n s .code) 0 ≡ false → searchOf mask (n + d) s ≡ searchOf mask n s
 unfolding searchOf searchOn
-stays mask n zero s h = rw add-zero
-stays mask n (suc d) s h = rw (add-suc, stays mask n d s h, h)
+stays mask n zero s h = ap (λ (k : ℕ). searchOf mask k s) (add-zero n)
+stays mask n (suc d) s h = ap (λ (k : ℕ). searchOf mask k s) (add-suc n d) ∙ ap (searchOn mask) (stays mask n d s h) ∙ ended mask (searchOf mask n s) h
 
 -- a search that ended before its count is over
 pub over : (mask i count code n : ℕ) (s₀ s : State) → i ≤ count → eqb code 0 ≡ false → searchOf mask i s₀ ≡ sought code n s → sought code n s ≡ searchOf mask count s₀
 over mask i count code n s₀ s le c h =
     let len : i + (count - i) ≡ count = omega arith in
-    sym h ∙ sym (stays mask i (count - i) s₀ (rw h c)) ∙ ap (λ (k : ℕ). searchOf mask k s₀) len
+    sym h ∙ sym (stays mask i (count - i) s₀ (ap (λ (q : Search). eqb (q .code) 0) h ∙ c)) ∙ ap (λ (k : ℕ). searchOf mask k s₀) len
 
 pub stops : (mask i count : ℕ) (s₀ s s₁ : State) (b : Bool) → i < count → searchOf mask i s₀ ≡ sought 0 i s → tick b s₁ ≡ stepOf s → b ≡ true → sought 5 i s₁ ≡ searchOf mask count s₀
 stops mask i count s₀ s s₁ b lt h e f =
-    over mask (i + 1) count 5 i s₀ s₁ (omega arith) refl (one-more mask i s₀ s (tick b s₁) h e ∙ rw f)
+    over mask (i + 1) count 5 i s₀ s₁ (omega arith) refl (one-more mask i s₀ s (tick b s₁) h e ∙ ap (λ (q : Bool). furtherBy mask (sought 0 i s) (tick q s₁)) f)
 
 pub ends : (mask i count : ℕ) (s₀ s : State) → i ≤ count → count ≤ i → searchOf mask i s₀ ≡ sought 0 i s → sought 0 i s ≡ searchOf mask count s₀
 ends mask i count s₀ s le ge h =

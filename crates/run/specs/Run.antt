@@ -1,7 +1,7 @@
 -- A run: one step, iterated (01 "The run and its numbers").
 use mathlib.Core.Bool.{Bool, false, cond}
 use Prim.Native.Nat.{ℕ, zero, suc, _+_}
-use Rattle.effects.specs.Effects.{State}
+use Rattle.delay.specs.State.{State}
 use Rattle.processor.specs.Step.{Tick, stepOf}
 
 -- whether the run stands before an unlisted COP2 command, the steps completed, and the machine after them

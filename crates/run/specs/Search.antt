@@ -4,7 +4,7 @@ use Prim.Native.Nat.{ℕ, zero, suc, _+_}
 use lib.Bits.{bitAnd}
 use lib.Dec.{eqb}
 use Rattle.gte_registers.specs.Registers.{reg}
-use Rattle.effects.specs.Effects.{State}
+use Rattle.delay.specs.State.{State}
 use Rattle.processor.specs.Step.{Tick, stepOf}
 use Rattle.run.specs.Run.{Run}
 

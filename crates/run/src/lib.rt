@@ -5,12 +5,12 @@ ghost use mathlib.Core.Bool.{_&&_, not};
 ghost use Prim.Native.Nat.{_≤_};
 ghost use lib.Bits.{bitAnd};
 ghost use lib.Dec.{eqb};
-ghost use Rattle.memory.specs.Addresses.{RamOk};
+ghost use Rattle.addresses.specs.Addresses.{RamOk};
 ghost use Rattle.gte_registers.specs.Registers.{view, reg};
-ghost use Rattle.effects.specs.Effects.{state};
+ghost use Rattle.delay.specs.State.{state};
 ghost use Rattle.run.specs.Search.{sought, searchOf};
 use control::Control;
-use gte_registers::register::read;
+use gte_registers::read;
 use processor::step;
 
 // code: 0 where count steps are done, 5 before an unlisted COP2 command, 16 where a bit has come up.

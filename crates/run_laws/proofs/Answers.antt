@@ -7,11 +7,13 @@ use mathlib.Core.Path.{_≡_, refl, sym, ap, _∙_}
 use lib.Dec.{eqb, leb}
 use lib.ListN.{length}
 use borrow.Author.Tests.{eq-eqb, le-leb, leb-true}
-use Rattle.effects.specs.Effects.{State}
-use Rattle.memory.specs.Addresses.{ramLength}
-use Rattle.image.specs.Image.{wellFormed, machineOf, imageOf}
+use Rattle.delay.specs.State.{State}
+use Rattle.addresses.specs.Addresses.{ramLength}
+use Rattle.formed.specs.Formed.{wellFormed}
+use Rattle.image.specs.Image.{machineOf, imageOf}
 use Rattle.run.specs.Run.{Run, ran, runOf}
-use Rattle.fliskadee.specs.Answer.{Answer, answer, packed, codeOf, finished, unlessRefused, mostSteps, afterFormed, refusalOf, answerOf}
+use Rattle.fliskadee.specs.Answer.{Answer, answer, packed, codeOf, finished, unlessRefused, answerOf}
+use Rattle.admission.specs.Refusals.{mostSteps, afterFormed, refusalOf}
 use Rattle.step_laws.specs.Formed.{StateFormed}
 use Rattle.run_laws.specs.Runs.{joined, Accepted, codeIn, stepsIn, Again, AcceptedAgain, Cut, CutInTwo}
 use Rattle.run_laws.proofs.Machine.{machine-formed, machine-back, image-accepted}

@@ -10,21 +10,24 @@ use borrow.Author.Tests.{leb-true}
 use Rattle.decode.specs.Decode.{decodeOf, ownerOf}
 use Rattle.decode.specs.declared.Op.{Op}
 use Rattle.decode.specs.declared.Op.the-variants as D
-use Rattle.isa.specs.Execute.{fieldsOf, executeOf}
-use Rattle.memory.specs.Addresses.{ramLength}
-use Rattle.effects.specs.Effects.{State, nextStep}
+use Rattle.fields.specs.Fields.{fieldsOf}
+use Rattle.isa.specs.Execute.{executeOf}
+use Rattle.addresses.specs.Addresses.{ramLength}
+use Rattle.delay.specs.State.{State}
+use Rattle.effects.specs.Effects.{nextStep}
 use Rattle.processor.specs.Step.{Tick, tick, geometryStep, afterCommand, performOf, issueOf, stepOf}
 use Rattle.gte_arithmetic.specs.Checks.{bitAt}
 use Rattle.gte_registers.specs.Registers.{reg}
 use Rattle.gte.specs.Commands.{Command, commandIn, sfOf, listed, outcomeOf, commandOf}
-use Rattle.gte.specs.declared.command.Outcome.{Outcome}
-use Rattle.gte.specs.declared.command.Outcome.the-variants as O
+use Rattle.gte.specs.declared.Outcome.{Outcome}
+use Rattle.gte.specs.declared.Outcome.the-variants as O
 use Rattle.gte_laws.specs.Demand.{tolerance, Near, Goes, single, first, second, third}
 use Rattle.gte_laws.proofs.Demand.{demand-3}
 use Rattle.image.specs.Image.{geometryIn, machineOf, imageOf}
 use Rattle.run.specs.Run.{Run, ran, further, onwards, runOf}
 use Rattle.run.proofs.Steps.{stays}
-use Rattle.fliskadee.specs.Answer.{Answer, packed, codeOf, finished, mostSteps, answerOf}
+use Rattle.fliskadee.specs.Answer.{Answer, packed, codeOf, finished, answerOf}
+use Rattle.admission.specs.Refusals.{mostSteps}
 use Rattle.step_laws.specs.Formed.{StateFormed}
 use Rattle.run_laws.specs.Runs.{Accepted, stepsIn}
 use Rattle.run_laws.specs.Demand.{CarriesOut, Demand3}

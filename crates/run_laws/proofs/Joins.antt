@@ -7,7 +7,7 @@ use mathlib.Core.Bool.{Bool, true, false, cond, _||_}
 use mathlib.Core.List.{List}
 use mathlib.Core.Path.{_≡_, refl, sym, ap, ap₂, _∙_}
 use lib.ListN.{length}
-use Rattle.effects.specs.Effects.{State}
+use Rattle.delay.specs.State.{State}
 use Rattle.processor.specs.Step.{Tick, tick, stepOf}
 use Rattle.run.specs.Run.{Run, ran, further, onwards, runOf}
 use Rattle.step_laws.specs.Formed.{StateFormed}

@@ -6,12 +6,13 @@ use mathlib.Core.List.{List, _++_}
 use mathlib.Core.Path.{_≡_, refl, sym, ap, _∙_}
 use borrow.Author.Tests.{eqb-true, eq-eqb}
 use lib.ListN.{length, getD, length-append}
-use Rattle.words.specs.Bytes.{wordsAt, bytesOf}
-use Rattle.words.proofs.Rows.{length-bytesOf, length-wordsAt}
+use Rattle.byte_order.specs.Bytes.{wordsAt, bytesOf}
+use Rattle.byte_order.proofs.Rows.{length-bytesOf, length-wordsAt}
 use Rattle.gte_registers.specs.Registers.{reads, WellFormed}
-use Rattle.effects.specs.Effects.{State, state}
-use Rattle.image.specs.Image.{registersIn, controlIn, geometryIn, controlOf, controlWords, machineOf, imageOf, formed, wellFormed}
-use Rattle.image.proofs.Formed.{Formed, formed-in, formed-out}
+use Rattle.delay.specs.State.{State, state}
+use Rattle.image.specs.Image.{registersIn, controlIn, geometryIn, controlOf, controlWords, machineOf, imageOf}
+use Rattle.formed.specs.Formed.{formed, wellFormed}
+use Rattle.formed.proofs.Facts.{Formed, formed-in, formed-out}
 use Rattle.image.proofs.Whole.{Back, back}
 use Rattle.step_laws.specs.Formed.{Only, RegistersFormed, PendingFormed, SystemFormed, StateFormed}
 use Rattle.run_laws.specs.Runs.{Accepted}

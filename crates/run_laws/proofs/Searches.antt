@@ -6,7 +6,7 @@ use mathlib.Core.Bool.{Bool, true, false, cond}
 use mathlib.Core.Path.{_≡_, refl, sym, ap, ap₂, _∙_}
 use lib.Dec.{eqb}
 use borrow.Author.Tests.{eqb-true, eqb-false}
-use Rattle.effects.specs.Effects.{State}
+use Rattle.delay.specs.State.{State}
 use Rattle.processor.specs.Step.{Tick, tick, stepOf}
 use Rattle.run.specs.Run.{Run, ran, onwards, runOf}
 use Rattle.run.proofs.Steps.{goes-on}

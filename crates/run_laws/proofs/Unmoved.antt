@@ -5,15 +5,16 @@ use mathlib.Core.Bool.{Bool, true, false, cond}
 use mathlib.Core.List.{List, _++_}
 use mathlib.Core.Path.{_≡_, refl, sym, ap, _∙_}
 use lib.ListN.{length, getD}
-use Rattle.words.specs.Bytes.{wordsAt, bytesOf}
-use Rattle.words.proofs.Rows.{read-append, bytes-back}
-use Rattle.memory.specs.Addresses.{ramLength}
-use Rattle.effects.specs.Effects.{State}
+use Rattle.byte_order.specs.Bytes.{wordsAt, bytesOf}
+use Rattle.byte_order.proofs.Rows.{read-append, bytes-back}
+use Rattle.addresses.specs.Addresses.{ramLength}
+use Rattle.delay.specs.State.{State}
 use Rattle.processor.specs.Step.{Tick, stepOf}
 use Rattle.image.specs.Image.{registersIn, controlIn, geometryIn, controlOf, controlWords, machineOf, imageOf}
-use Rattle.image.proofs.Formed.{formed-in}
+use Rattle.formed.proofs.Facts.{formed-in}
 use Rattle.run.specs.Run.{Run, ran, further, onwards, runOf}
-use Rattle.fliskadee.specs.Answer.{finished, mostSteps, answerOf}
+use Rattle.fliskadee.specs.Answer.{finished, answerOf}
+use Rattle.admission.specs.Refusals.{mostSteps}
 use Rattle.step_laws.proofs.Kept.{step-kept}
 use Rattle.run_laws.specs.Runs.{Accepted, stepsIn, Bytes, NothingDone}
 use Rattle.run_laws.proofs.Joins.{run-going}

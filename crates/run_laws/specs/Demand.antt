@@ -5,10 +5,10 @@ use mathlib.Core.Path.{_≡_}
 use Prim.Native.Nat.{ℕ, suc, _≤_}
 use Rattle.decode.specs.Decode.{decodeOf, ownerOf}
 use Rattle.decode.specs.declared.Op.the-variants.{Command}
-use Rattle.memory.specs.declared.LoadKind.the-variants.{Word}
-use Rattle.memory.specs.declared.Loaded.the-variants.{Value}
+use Rattle.loads.specs.declared.LoadKind.the-variants.{Word}
+use Rattle.loads.specs.declared.Loaded.the-variants.{Value}
 use Rattle.control.specs.System.{usableOf}
-use Rattle.effects.specs.Effects.{State}
+use Rattle.delay.specs.State.{State}
 use Rattle.processor.specs.Step.{loaded}
 use Rattle.gte_arithmetic.specs.Checks.{bitAt}
 use Rattle.gte_registers.specs.Registers.{reg}

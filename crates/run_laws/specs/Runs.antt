@@ -5,11 +5,13 @@ use mathlib.Core.Path.{_≡_}
 use Prim.Native.Nat.{ℕ, suc, _+_, _/_, _%_, _<_, _≤_}
 use lib.Dec.{eqb}
 use lib.ListN.{length, getD}
-use Rattle.effects.specs.Effects.{State}
-use Rattle.memory.specs.Addresses.{ramLength}
-use Rattle.image.specs.Image.{imageLength, wellFormed}
+use Rattle.delay.specs.State.{State}
+use Rattle.addresses.specs.Addresses.{ramLength}
+use Rattle.image.specs.Image.{imageLength}
+use Rattle.formed.specs.Formed.{wellFormed}
 use Rattle.run.specs.Run.{Run, ran, onwards, runOf}
-use Rattle.fliskadee.specs.Answer.{Answer, mostSteps, answerOf}
+use Rattle.fliskadee.specs.Answer.{Answer, answerOf}
+use Rattle.admission.specs.Refusals.{mostSteps}
 
 -- ---- on machines
 

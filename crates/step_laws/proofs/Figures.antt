@@ -6,27 +6,32 @@ use Rattle.integers.specs.Wrap.{wrap}
 use Rattle.integers.specs.Clamp.{clamp}
 use Rattle.gte_arithmetic.specs.Checks.{or, flags, flagWord}
 use Rattle.gte_arithmetic.specs.Values.{macOf, irOf, depthOf, screenOf, factorOf, quotient, ratioOf}
-use Rattle.gte_arithmetic.specs.Sums.{rowOf, productOf}
-use Rattle.gte_arithmetic.specs.Line.{lineChecksAt, lineOf}
+use Rattle.gte_sums.specs.Sums.{rowOf, productOf}
+use Rattle.gte_line.specs.Line.{lineChecksAt, lineOf}
 use Rattle.gte_projection.specs.Projection.{exactOf, farOf, pairOf, screenChecks, onScreen, vertexChecks, vertexOf}
-use Rattle.gte_projection.specs.Depth.{windingOf, averageChecks, averageOf}
-use Rattle.gte_colour.specs.Bases.{squaresOf}
+use Rattle.gte_depth.specs.Depth.{windingOf, averageChecks, averageOf}
+use Rattle.gte_products.specs.Products.{squaresOf}
 use Rattle.gte_registers.specs.Registers.{kinds, readOf, reads, short, half, field, fieldsOf, leadingFrom, leading, pushedXY, spreadFields, written, writeOf}
 use Rattle.gte_inputs.specs.Inputs.{matrixOf, vectorOf, longOf, cornerOf, inputsOf}
-use Rattle.gte.specs.Values.{rotated, squareOf}
+use Rattle.gte_vertices.specs.Vertices.{rotated}
+use Rattle.gte_sqr_op.specs.SqrOp.{squareOf}
 use Rattle.gte.specs.Commands.{commands, leaves, outcomeOf, commandOf}
-use Rattle.gte_effects.specs.Effects.{stored, flagged, pushedZ, lineLeft, pushedVertex, vertexKept, vertexLeft, windingLeft, averageLeft}
-use Rattle.words.specs.Bytes.{wordAt, bytesOf}
+use Rattle.gte_effects.specs.Effects.{stored, flagged, lineLeft}
+use Rattle.gte_vertex_effects.specs.VertexEffects.{pushedZ, pushedVertex, vertexKept, vertexLeft, windingLeft, averageLeft}
+use Rattle.byte_order.specs.Bytes.{wordAt, bytesOf}
 use Rattle.decode.specs.Decode.{specials, primaries, decodeOf, owners, ownerOf}
 use Rattle.alu.specs.Alu.{sumOf}
-use Rattle.memory.specs.Addresses.{mapped, segmentOf, placeOf}
-use Rattle.memory.specs.Access as M
+use Rattle.addresses.specs.Addresses.{mapped, segmentOf, placeOf}
+use Rattle.loads.specs.Loads as M
+use Rattle.fields.specs.Fields as F
 use Rattle.isa.specs.Execute as I
 use Rattle.control.specs.System as C
-use Rattle.effects.specs.Effects.{writeStep, trapStep}
+use Rattle.exceptions.specs.Exceptions as X
+use Rattle.effects.specs.Effects.{writeStep}
+use Rattle.traps.specs.Traps.{trapStep}
 use Rattle.processor.specs.Step.{performOf, issueOf, stepOf}
 use Rattle.step_laws.specs.Figures.{Figure, figures}
 
 pub bench-figures : map (λ (f : Figure). f .got) figures ≡ map (λ (f : Figure). f .said) figures
-unfolding figures modZ wrap clamp or flags flagWord macOf irOf depthOf screenOf factorOf quotient ratioOf rowOf productOf lineChecksAt lineOf exactOf farOf pairOf screenChecks onScreen vertexChecks vertexOf windingOf averageChecks averageOf squaresOf kinds readOf reads short half field fieldsOf leadingFrom leading pushedXY spreadFields written writeOf matrixOf vectorOf longOf cornerOf inputsOf rotated squareOf commands leaves outcomeOf commandOf stored flagged pushedZ lineLeft pushedVertex vertexKept vertexLeft windingLeft averageLeft wordAt bytesOf specials primaries decodeOf owners ownerOf sumOf mapped segmentOf placeOf M.readOf I.fieldsOf I.executeOf C.usableOf C.raisedSystem C.vectorOf C.raisedOf writeStep trapStep performOf issueOf stepOf
+unfolding figures modZ wrap clamp or flags flagWord macOf irOf depthOf screenOf factorOf quotient ratioOf rowOf productOf lineChecksAt lineOf exactOf farOf pairOf screenChecks onScreen vertexChecks vertexOf windingOf averageChecks averageOf squaresOf kinds readOf reads short half field fieldsOf leadingFrom leading pushedXY spreadFields written writeOf matrixOf vectorOf longOf cornerOf inputsOf rotated squareOf commands leaves outcomeOf commandOf stored flagged pushedZ lineLeft pushedVertex vertexKept vertexLeft windingLeft averageLeft wordAt bytesOf specials primaries decodeOf owners ownerOf sumOf mapped segmentOf placeOf M.readOf F.fieldsOf I.executeOf C.usableOf X.raisedSystem X.vectorOf X.raisedOf writeStep trapStep performOf issueOf stepOf
 bench-figures = refl

@@ -9,31 +9,37 @@ use lib.Dec.{eqb}
 use lib.ListN.{length, getD, set, length-set}
 use borrow.Author.Tests.{eqb-false}
 use Rattle.tables.specs.Table.{_⇒_, lookup}
-use Rattle.alu.specs.declared.HiLo.{HiLo}
-use Rattle.memory.specs.Addresses.{placeOf}
-use Rattle.memory.specs.Access.{loadAlign, storeAlign, loadOf, storeOf, ramAfter}
-use Rattle.memory.specs.declared.LoadKind.{LoadKind}
-use Rattle.memory.specs.declared.LoadKind.the-variants as K
-use Rattle.memory.specs.declared.Loaded.{Loaded}
-use Rattle.memory.specs.declared.Loaded.the-variants as L
-use Rattle.memory.specs.declared.Stored.{Stored}
-use Rattle.memory.specs.declared.Stored.the-variants as S
-use Rattle.memory.specs.declared.StoreKind.{StoreKind}
-use Rattle.memory.specs.declared.StoreKind.the-variants as W
+use Rattle.mul_div.specs.declared.HiLo.{HiLo}
+use Rattle.addresses.specs.Addresses.{placeOf}
+use Rattle.loads.specs.Loads.{loadAlign, loadOf}
+use Rattle.stores.specs.Stores.{storeAlign, storeOf, ramAfter}
+use Rattle.loads.specs.declared.LoadKind.{LoadKind}
+use Rattle.loads.specs.declared.LoadKind.the-variants as K
+use Rattle.loads.specs.declared.Loaded.{Loaded}
+use Rattle.loads.specs.declared.Loaded.the-variants as L
+use Rattle.stores.specs.declared.Stored.{Stored}
+use Rattle.stores.specs.declared.Stored.the-variants as S
+use Rattle.stores.specs.declared.StoreKind.{StoreKind}
+use Rattle.stores.specs.declared.StoreKind.the-variants as W
 use Rattle.decode.specs.Decode.{decodeOf, ownerOf, rs, rt}
-use Rattle.isa.specs.Execute.{fieldsOf, executeOf}
+use Rattle.fields.specs.Fields.{fieldsOf}
+use Rattle.isa.specs.Execute.{executeOf}
 use Rattle.isa.specs.declared.Effect.{Effect}
 use Rattle.isa.specs.declared.Effect.the-variants as E
 use Rattle.gte_registers.specs.Registers.{reg, writeOf, WellFormed}
 use Rattle.gte.specs.Commands.{outcomeOf, commandOf}
-use Rattle.gte.specs.declared.command.Outcome.{Outcome}
-use Rattle.gte.specs.declared.command.Outcome.the-variants as O
+use Rattle.gte.specs.declared.Outcome.{Outcome}
+use Rattle.gte.specs.declared.Outcome.the-variants as O
 use Rattle.gte_laws.proofs.Formed.{write-formed, command-formed}
-use Rattle.control.specs.System.{userOf, usableOf, numberOf, readSystemOf, withSr, withCause, writeSystemOf, restoredOf, inSlot, raisedSystem, raisedOf, none, withBadAddress}
+use Rattle.control.specs.System.{userOf, usableOf, numberOf, readSystemOf, withSr, withCause, writeSystemOf, restoredOf, none}
+use Rattle.exceptions.specs.Exceptions.{inSlot, raisedSystem, raisedOf, withBadAddress}
 use Rattle.control.specs.declared.Flow.{Flow}
 use Rattle.control.specs.declared.Pending.{Pending}
 use Rattle.control.specs.declared.System.{System}
-use Rattle.effects.specs.Effects.{State, state, landed, landedUnless, withRegister, pendingOf, currentOf, nextStep, writeStep, jumpStep, linkStep, productStep, systemStep, waitStep, trapStep, faultStep}
+use Rattle.delay.specs.State.{State, state}
+use Rattle.delay.specs.Delay.{landed, landedUnless, withRegister, pendingOf, currentOf}
+use Rattle.effects.specs.Effects.{nextStep, writeStep, jumpStep, linkStep, productStep, systemStep, waitStep}
+use Rattle.traps.specs.Traps.{trapStep, faultStep}
 use Rattle.processor.specs.Step.{Tick, tick, geometryStep, loaded, afterLoad, loadStep, loadGeometryStep, afterStore, storeStep, afterCommand, performOf, issueOf, afterFetch, stepOf}
 use Rattle.step_laws.specs.Formed.{Only, RegistersFormed, PendingFormed, SystemFormed, StateFormed}
 use Rattle.step_laws.proofs.Masks.{masked, sr-low, cause-raised, cause-written}

@@ -6,29 +6,32 @@ use mathlib.Core.List.{List}
 use mathlib.Core.Path.{_≡_, refl, sym, ap, _∙_}
 use lib.ListN.{length, getD, take, drop, length-set}
 use lib.Seq.{length-sets}
-use Rattle.alu.specs.declared.HiLo.{HiLo}
-use Rattle.words.proofs.Rows.{length-setWords}
-use Rattle.memory.specs.Addresses.{placeOf}
-use Rattle.memory.specs.Access as M
-use Rattle.memory.specs.Access.{storeAlign, storeOf, ramAfter}
-use Rattle.memory.specs.declared.Place.{Place}
-use Rattle.memory.specs.declared.Place.the-variants as P
-use Rattle.memory.specs.declared.LoadKind.the-variants as K
-use Rattle.memory.specs.declared.Loaded.{Loaded}
-use Rattle.memory.specs.declared.Loaded.the-variants as L
-use Rattle.memory.specs.declared.Stored.{Stored}
-use Rattle.memory.specs.declared.Stored.the-variants as S
-use Rattle.memory.specs.declared.StoreKind.{StoreKind}
-use Rattle.memory.specs.declared.StoreKind.the-variants as W
+use Rattle.mul_div.specs.declared.HiLo.{HiLo}
+use Rattle.byte_order.proofs.Rows.{length-setWords}
+use Rattle.addresses.specs.Addresses.{placeOf}
+use Rattle.stores.specs.Stores as M
+use Rattle.stores.specs.Stores.{storeAlign, storeOf, ramAfter}
+use Rattle.addresses.specs.declared.Place.{Place}
+use Rattle.addresses.specs.declared.Place.the-variants as P
+use Rattle.loads.specs.declared.LoadKind.the-variants as K
+use Rattle.loads.specs.declared.Loaded.{Loaded}
+use Rattle.loads.specs.declared.Loaded.the-variants as L
+use Rattle.stores.specs.declared.Stored.{Stored}
+use Rattle.stores.specs.declared.Stored.the-variants as S
+use Rattle.stores.specs.declared.StoreKind.{StoreKind}
+use Rattle.stores.specs.declared.StoreKind.the-variants as W
 use Rattle.decode.specs.Decode.{ownerOf}
 use Rattle.isa.specs.declared.Effect.{Effect}
 use Rattle.isa.specs.declared.Effect.the-variants as E
 use Rattle.gte_registers.specs.Registers.{reg, writeOf}
 use Rattle.gte.specs.Commands.{outcomeOf, commandOf}
-use Rattle.gte.specs.declared.command.Outcome.{Outcome}
-use Rattle.gte.specs.declared.command.Outcome.the-variants as O
+use Rattle.gte.specs.declared.Outcome.{Outcome}
+use Rattle.gte.specs.declared.Outcome.the-variants as O
 use Rattle.control.specs.System.{userOf, usableOf, numberOf, readSystemOf, writeSystemOf, restoredOf}
-use Rattle.effects.specs.Effects.{State, state, currentOf, nextStep, writeStep, jumpStep, linkStep, productStep, systemStep, waitStep, trapStep, faultStep}
+use Rattle.delay.specs.State.{State, state}
+use Rattle.delay.specs.Delay.{currentOf}
+use Rattle.effects.specs.Effects.{nextStep, writeStep, jumpStep, linkStep, productStep, systemStep, waitStep}
+use Rattle.traps.specs.Traps.{trapStep, faultStep}
 use Rattle.step_laws.proofs.Formed.{effectOf}
 use Rattle.processor.specs.Step.{Tick, tick, geometryStep, loaded, afterLoad, loadStep, loadGeometryStep, afterStore, storeStep, afterCommand, performOf, issueOf, afterFetch, stepOf}
 

@@ -5,10 +5,10 @@ use lib.ListN.{getD, set}
 use Rattle.gte_arithmetic.specs.Values.{ratioOf}
 use Rattle.gte_registers.specs.Registers.{reg, writeOf}
 use Rattle.gte.specs.Commands.{commandOf}
-use Rattle.words.specs.Bytes.{bytesOf}
+use Rattle.byte_order.specs.Bytes.{bytesOf}
 use Rattle.control.specs.System.{none}
 use Rattle.control.specs.declared.Control.{Control}
-use Rattle.effects.specs.Effects.{State, state}
+use Rattle.delay.specs.State.{State, state}
 use Rattle.processor.specs.Step.{stepOf}
 
 abbrev pub zeros : ℕ → List ℕ

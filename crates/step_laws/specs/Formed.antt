@@ -7,7 +7,7 @@ use lib.ListN.{length, getD}
 use Rattle.gte_registers.specs.Registers.{WellFormed}
 use Rattle.control.specs.declared.Pending.{Pending}
 use Rattle.control.specs.declared.System.{System}
-use Rattle.effects.specs.Effects.{State}
+use Rattle.delay.specs.State.{State}
 
 -- x has only bits of m
 abbrev pub Only : ℕ → ℕ → Type 0

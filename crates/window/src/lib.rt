@@ -3,10 +3,10 @@ ghost use mathlib.Core.Path.{_≡_};
 ghost use Prim.Native.Nat.{_+_, _≤_};
 ghost use lib.ListN.{length};
 ghost use Rattle.window.specs.Window.{partFrom, windowAt, partOf, windowOf};
-use memory::Place;
-use memory::Virt;
-use memory::ram_length;
-use memory::translate;
+use addresses::Place;
+use addresses::Virt;
+use addresses::ram_length;
+use addresses::translate;
 
 // A part of RAM: where it begins, and how long it is.
 pub struct Part {

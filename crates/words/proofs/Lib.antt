@@ -1,2 +1,1 @@
 mod Signs
-pub mod Rows

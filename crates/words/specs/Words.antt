@@ -2,7 +2,6 @@
 -- integer; `toZ w` reads w bits in two's complement, `ofZ w` gives the bits of a signed value.
 use Prim.Native.Nat.{ℕ, _/_, _%_, _^_}
 use lib.IntN.{ℤ}
-use lib.Signed.{shrZ}
 use mir.Syntax.{Width, w16, w32}
 use mir.Val.{bits, toZ, ofZ}
 
@@ -20,8 +19,3 @@ signExtend w x = ofZ w32 (lowSigned w x)
 
 abbrev pub zeroExtend : Width → ℕ → ℕ
 zeroExtend w x = x % 2 ^ bits w
-
--- SRA and SRAV, 01 "SRA and the signed product keep the sign": the signed value divided by a power of two, rounded down.
--- The amount is the low five bits.
-unfoldable pub sraOf : ℕ → ℕ → ℕ
-sraOf x amount = ofZ w32 (shrZ (toZ w32 x) (2 ^ (amount % 32)))

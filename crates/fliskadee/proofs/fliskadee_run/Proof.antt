@@ -1,7 +1,7 @@
 -- The run is the search with mask 0.
 use borrow.Author.Needs.{needs}
 use mathlib.Core.Path.{_∙_}
-use Rattle.fliskadee.proofs.Refusals.{find-run}
+use Rattle.fliskadee.proofs.Answers.{find-run}
 use Rattle.fliskadee.proofs.fliskadee_run.Statement.{statement}
 use Rattle.fliskadee.proofs.fliskadee_run.Tie as tie
 

@@ -3,7 +3,8 @@ use native.Mathlib.Omega.{arith}
 use mathlib.Core.Path.{refl, sym, _∙_}
 use borrow.Author.Tests.{eq-eqb}
 use Rattle.fliskadee.specs.Answer.{findOf}
-use Rattle.fliskadee.proofs.Refusals.{passed, small, refused-is}
+use Rattle.admission.proofs.Refusals.{passed, small}
+use Rattle.fliskadee.proofs.Answers.{refused-is}
 use borrow.Author.Needs.{needs}
 use Rattle.fliskadee.proofs.run_with.Statement.{statement}
 use Rattle.fliskadee.proofs.run_with.Tie as tie

@@ -4,11 +4,11 @@ use mathlib.Core.Path.{_≡_}
 use mathlib.Core.Bool.{Bool}
 use mir.Syntax.{w16}
 use Rattle.integers.specs.Bound.{back}
-use Rattle.gte_colour.specs.Bases.{scaledFrom}
+use Rattle.gte_products.specs.Products.{scaledFrom}
 use Rattle.gte_colour.specs.Shade.{shadeOf}
 use Rattle.gte_inputs.specs.Inputs.{Inputs, inputsOf}
 use Rattle.gte_shading.specs.Shading.{gplOf}
-use Rattle.gte_shading.proofs.Lines.{shade-flags, code}
+use Rattle.gte_cueing.proofs.Lines.{shade-flags, code}
 use Rattle.gte_shading.proofs.gpl_part.Statement.{statement}
 use Rattle.gte_shading.proofs.gpl_part.Tie as tie
 

@@ -1,7 +1,7 @@
 -- Each arm does what the specification says of its instruction, with the results of the functions it calls.
 use borrow.Author.Needs.{needs}
 use Rattle.isa.specs.Execute.{executeOf}
-use Rattle.isa.proofs.Words.{difference}
+use Rattle.alu.proofs.Words.{difference}
 use Rattle.isa.proofs.execute.Statement.{statement}
 use Rattle.isa.proofs.execute.Tie as tie
 

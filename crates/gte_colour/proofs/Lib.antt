@@ -1,2 +1,0 @@
-mod Widen
-mod Three

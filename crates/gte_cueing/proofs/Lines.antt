@@ -1,0 +1,46 @@
+-- The flags of the lines of a colour command: the lines that checks name do not matter to them.
+use mathlib.Core.Path.{_≡_, refl, ap, _∙_}
+use mathlib.Core.Bool.{Bool, false}
+use mathlib.Core.List.{List, _++_}
+use Prim.Native.Nat.{ℕ}
+use lib.ListN.{getD}
+use Rattle.gte_arithmetic.specs.Checks.{or, Check, flags}
+use Rattle.gte_line.specs.Line.{lineChecks, lineChecksAt}
+use Rattle.gte_sums.specs.declared.Wide.{Wide}
+use Rattle.gte_arithmetic.proofs.Flags.{flags-++}
+use Rattle.gte_colour.specs.Shade.{farther, blendOf, shadeChecks}
+use Rattle.gte_colour.specs.declared.Shade.{Shade}
+use Rattle.gte_inputs.specs.Inputs.{Inputs, inputsOf}
+use Rattle.gte_cueing.specs.Cueing.{cuedChecks}
+
+-- ---- the lines do not matter
+pub line-flags : (n : ℕ) (sf lm : Bool) (s : Wide) → flags (lineChecks n sf lm s) ≡ flags (lineChecks 0 sf lm s)
+unfolding flags lineChecksAt
+line-flags n sf lm s = refl
+
+pub shade-flags : (n m : ℕ) (sf lm : Bool) (s : Wide) → flags (shadeChecks n m sf lm s) ≡ flags (shadeChecks 0 0 sf lm s)
+unfolding flags shadeChecks
+shade-flags n m sf lm s = refl
+
+-- ---- one line, and what follows
+pub after-line : (n : ℕ) (sf lm : Bool) (s : Wide) (rest : List Check)
+    → flags (lineChecks n sf lm s ++ rest) ≡ or (flags (lineChecks 0 sf lm s)) (flags rest)
+after-line n sf lm s rest = flags-++ (lineChecks n sf lm s) rest ∙ ap (λ (x : ℕ). or x (flags rest)) (line-flags n sf lm s)
+
+-- the difference from the far colour, then the end
+pub cued-flags : (l n m : ℕ) (sf lm : Bool) (i : Inputs) (s : Wide)
+    → flags (cuedChecks l n m sf lm i s)
+    ≡ or (flags (lineChecks 0 sf false (farther (i .fc) s))) (flags (shadeChecks 0 0 sf lm (blendOf sf (i .fc) (i .ir0) s)))
+unfolding cuedChecks
+cued-flags l n m sf lm i s =
+    after-line l sf false (farther (i .fc) s) (shadeChecks n m sf lm (blendOf sf (i .fc) (i .ir0) s))
+    ∙ ap (or (flags (lineChecks 0 sf false (farther (i .fc) s)))) (shade-flags n m sf lm (blendOf sf (i .fc) (i .ir0) s))
+
+-- the word that holds CODE
+pub code : (w : List ℕ) → getD w 6 0 ≡ inputsOf w .rgbc
+unfolding inputsOf
+code w = refl
+
+-- a shade with further flags
+abbrev pub withFlag : ℕ → Shade → Shade
+withFlag f s = record { mac = s .mac; ir = s .ir; rgb = s .rgb; flag = or f (s .flag) }

@@ -1,0 +1,38 @@
+-- What RTPS, RTPT, NCLIP, AVSZ3 and AVSZ4 write, and nothing else.
+use mathlib.Core.List.{List, []}
+use Prim.Native.Nat.{ℕ, _^_}
+use lib.IntN.{ℤ}
+use lib.ListN.{set}
+use mir.Syntax.{w32}
+use mir.Val.{ofZ}
+use Rattle.integers.specs.Wrap.{wrap}
+use Rattle.gte_arithmetic.specs.Checks.{flags, or}
+use Rattle.gte_arithmetic.specs.Values.{mac0Checks}
+use Rattle.gte_projection.specs.declared.Vertex.{Vertex}
+use Rattle.gte_depth.specs.declared.Average.{Average}
+use Rattle.gte_registers.specs.Registers.{reg, pushedXY}
+use Rattle.gte_effects.specs.Effects.{stored, flagged}
+
+-- the SZ queue: the older entries move one stage down
+unfoldable pub pushedZ : ℕ → List ℕ → List ℕ
+pushedZ z w = set (set (set (set w 16 (reg w 17)) 17 (reg w 18)) 18 (reg w 19)) 19 z
+
+-- RTPS and RTPT
+unfoldable pub pushedVertex : Vertex → List ℕ → List ℕ
+pushedVertex v w = pushedXY (v .xy) (pushedZ (v .sz) w)
+
+unfoldable pub vertexKept : Vertex → ℕ → List ℕ → List ℕ
+vertexKept v f w = flagged f (stored (v .mac) (v .ir) (set (set w 24 (ofZ w32 (v .mac0))) 8 (v .ir0)))
+
+unfoldable pub vertexLeft : Vertex → List ℕ → List ℕ
+vertexLeft v w = vertexKept v (v .flag) (pushedVertex v w)
+
+unfoldable pub verticesLeft : Vertex → Vertex → Vertex → List ℕ → List ℕ
+verticesLeft a b c w = vertexKept c (or (a .flag) (or (b .flag) (c .flag))) (pushedVertex c (pushedVertex b (pushedVertex a w)))
+
+-- NCLIP, and AVSZ3 and AVSZ4
+unfoldable pub windingLeft : ℤ → List ℕ → List ℕ
+windingLeft x w = flagged (flags (mac0Checks 1 x [])) (set w 24 (ofZ w32 (wrap (2 ^ 31) x)))
+
+unfoldable pub averageLeft : Average → List ℕ → List ℕ
+averageLeft a w = flagged (a .flag) (set (set w 24 (ofZ w32 (a .mac0))) 7 (a .otz))

@@ -1,0 +1,69 @@
+// What RTPS, RTPT, AVSZ3 and AVSZ4 write to the 64 words.
+ghost use mathlib.Core.Path.{_≡_};
+ghost use Rattle.gte_registers.specs.Registers.{view, reads};
+ghost use Rattle.gte_vertex_effects.specs.VertexEffects.{pushedZ, pushedVertex, vertexKept, vertexLeft, verticesLeft, averageLeft};
+use gte_depth::Average;
+use gte_effects::store;
+use gte_projection::Vertex;
+use gte_registers::sized;
+use gte_writes::push_xy;
+use words::to_bits;
+
+fn push_z(c: &mut [u32; 64], z: u32)
+    ensures { λ _. ⌜ now (c .exit) ≡ pushedZ z (now (c .entry)) ⌝ }
+{
+    let z1 = c[17];
+    let z2 = c[18];
+    let z3 = c[19];
+    c[16] = z1;
+    c[17] = z2;
+    c[18] = z3;
+    c[19] = z;
+}
+
+// The queues take a vertex.
+fn push_vertex(c: &mut [u32; 64], v: Vertex)
+    ensures { λ _. ⌜ now (c .exit) ≡ pushedVertex v (now (c .entry)) ⌝ }
+{
+    push_z(c, v.sz);
+    push_xy(c, v.xy);
+}
+
+// The registers that a vertex leaves beside the queues.
+fn keep_vertex(c: &mut [u32; 64], v: Vertex, flag: u32)
+    ensures { λ _. ⌜ now (c .exit) ≡ vertexKept v flag (now (c .entry)) ⌝ }
+{
+    let m = v.mac;
+    let i = v.ir;
+    c[24] = to_bits(v.mac0);
+    c[8] = v.ir0;
+    store(c, m, i);
+    c[63] = flag;
+}
+
+pub fn leave_vertex(c: &mut [u32; 64], v: Vertex)
+    ensures { λ _. ⌜ view (now (c .exit)) ≡ reads (vertexLeft v (view (now (c .entry)))) ⌝ }
+{
+    sized(c);
+    push_vertex(c, v);
+    keep_vertex(c, v, v.flag);
+}
+
+pub fn leave_vertices(c: &mut [u32; 64], p: Vertex, q: Vertex, r: Vertex)
+    ensures { λ _. ⌜ view (now (c .exit)) ≡ reads (verticesLeft p q r (view (now (c .entry)))) ⌝ }
+{
+    sized(c);
+    push_vertex(c, p);
+    push_vertex(c, q);
+    push_vertex(c, r);
+    keep_vertex(c, r, p.flag | (q.flag | r.flag));
+}
+
+pub fn leave_average(c: &mut [u32; 64], a: Average)
+    ensures { λ _. ⌜ view (now (c .exit)) ≡ reads (averageLeft a (view (now (c .entry)))) ⌝ }
+{
+    sized(c);
+    c[24] = to_bits(a.mac0);
+    c[7] = a.otz;
+    c[63] = a.flag;
+}
