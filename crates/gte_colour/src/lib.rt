@@ -13,17 +13,10 @@ ghost use Rattle.gte_colour.specs.Shade.{farther, mixedOf, colourWord, s
 use gte_arithmetic::limit_colour;
 use gte_line::finish;
 use gte_line::finish_one;
-use gte_sums::Long;
-use gte_sums::Vector;
-use gte_sums::Wide;
-
-// What a colour command leaves: rgb goes into the colour FIFO.
-pub struct Shade {
-    pub mac: Long,
-    pub ir: Vector,
-    pub rgb: u32,
-    pub flag: u32,
-}
+use gte_values::Long;
+use gte_values::Shade;
+use gte_values::Vector;
+use gte_values::Wide;
 
 // MAC+(FC-MAC)·IR0, exact.
 pub struct Mixed {

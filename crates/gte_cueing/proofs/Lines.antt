@@ -6,10 +6,10 @@ use Prim.Native.Nat.{ℕ}
 use lib.ListN.{getD}
 use Rattle.gte_arithmetic.specs.Checks.{or, Check, flags}
 use Rattle.gte_line.specs.Line.{lineChecks, lineChecksAt}
-use Rattle.gte_sums.specs.declared.Wide.{Wide}
+use Rattle.gte_values.specs.declared.Wide.{Wide}
 use Rattle.gte_arithmetic.proofs.Flags.{flags-++}
 use Rattle.gte_colour.specs.Shade.{farther, blendOf, shadeChecks}
-use Rattle.gte_colour.specs.declared.Shade.{Shade}
+use Rattle.gte_values.specs.declared.Shade.{Shade}
 use Rattle.gte_inputs.specs.Inputs.{Inputs, inputsOf}
 use Rattle.gte_cueing.specs.Cueing.{cuedChecks}
 

@@ -6,11 +6,11 @@ use Prim.Native.Nat.{ℕ}
 use Rattle.gte_arithmetic.specs.Checks.{Check, flags}
 use Rattle.gte_sums.specs.Sums.{productOf}
 use Rattle.gte_line.specs.Line.{lineOf, lineChecks}
-use Rattle.gte_sums.specs.declared.Vector.{Vector}
-use Rattle.gte_sums.specs.declared.Wide.{Wide}
+use Rattle.gte_values.specs.declared.Vector.{Vector}
+use Rattle.gte_values.specs.declared.Wide.{Wide}
 use Rattle.gte_tones.specs.Tones.{tonesOf, levelsOf, raisedOf}
 use Rattle.gte_colour.specs.Shade.{farther, blendOf, shadeOf, shadeChecks}
-use Rattle.gte_colour.specs.declared.Shade.{Shade}
+use Rattle.gte_values.specs.declared.Shade.{Shade}
 use Rattle.gte_inputs.specs.Inputs.{Inputs, queued}
 
 -- a shade with the flags of a list of checks

@@ -8,19 +8,9 @@ ghost use Rattle.gte_depth.specs.Depth.{windingOf, averageOf};
 use gte_arithmetic::limit_depth;
 use gte_store::Stored;
 use gte_store::store_mac0;
+use gte_values::Average;
+use gte_values::Corner;
 use shifts::shift_12;
-
-// A point of the screen.
-pub struct Corner {
-    pub x: i16,
-    pub y: i16,
-}
-
-pub struct Average {
-    pub mac0: i32,
-    pub otz: u32,
-    pub flag: u32,
-}
 
 // Six products, in the order of the formula.
 fn add_products(x0: i16, y0: i16, x1: i16, y1: i16, x2: i16, y2: i16) -> i64

@@ -3,8 +3,8 @@ use mathlib.Core.Path.{_≡_, ap, _∙_}
 use mathlib.Core.List.{List}
 use Prim.Native.Nat.{ℕ}
 use lib.ListN.{length}
-use Rattle.gte_line.specs.declared.Line.{Line}
-use Rattle.gte_colour.specs.declared.Shade.{Shade}
+use Rattle.gte_values.specs.declared.Line.{Line}
+use Rattle.gte_values.specs.declared.Shade.{Shade}
 use Rattle.gte_registers.specs.Registers.{kinds, readOf, reads, view}
 use Rattle.gte_registers.proofs.Views.{short-short, half-half, from, spelt}
 use Rattle.gte_effects.specs.Effects.{stored, flagged, pushedColour, lineLeft, shadeLeft, shadesLeft}

@@ -6,10 +6,10 @@ use lib.ListN.{set}
 use mir.Syntax.{w32}
 use mir.Val.{ofZ}
 use Rattle.gte_arithmetic.specs.Checks.{flags, or}
-use Rattle.gte_sums.specs.declared.Vector.{Vector}
-use Rattle.gte_sums.specs.declared.Long.{Long}
-use Rattle.gte_line.specs.declared.Line.{Line}
-use Rattle.gte_colour.specs.declared.Shade.{Shade}
+use Rattle.gte_values.specs.declared.Vector.{Vector}
+use Rattle.gte_values.specs.declared.Long.{Long}
+use Rattle.gte_values.specs.declared.Line.{Line}
+use Rattle.gte_values.specs.declared.Shade.{Shade}
 use Rattle.gte_registers.specs.Registers.{reg}
 
 -- MAC1..3 and IR1..3

@@ -2,11 +2,11 @@
 ghost use mathlib.Core.Path.{_≡_};
 ghost use Rattle.gte_registers.specs.Registers.{view, reads};
 ghost use Rattle.gte_effects.specs.Effects.{stored, pushedColour, lineLeft, shadeLeft, shadesLeft};
-use gte_colour::Shade;
-use gte_line::Line;
 use gte_registers::sized;
-use gte_sums::Long;
-use gte_sums::Vector;
+use gte_values::Line;
+use gte_values::Long;
+use gte_values::Shade;
+use gte_values::Vector;
 use words::to_bits;
 
 // MAC1..3 and IR1..3 are written.

@@ -7,7 +7,7 @@ use lib.ListN.{length}
 use Rattle.gte_arithmetic.specs.Checks.{Check, or, flags, flagWord, counted, bitAt, some}
 use Rattle.gte_arithmetic.proofs.Flags.{flags-bit, flags-++, clear-31, some-++, fst, snd}
 use Rattle.gte_projection.specs.Projection.{vertexOf}
-use Rattle.gte_projection.specs.declared.Vertex.{Vertex}
+use Rattle.gte_values.specs.declared.Vertex.{Vertex}
 use Rattle.gte_registers.specs.Registers.{reg, kinds, readOf, reads, pushedXY}
 use Rattle.gte_inputs.specs.Inputs.{Inputs, inputsOf}
 use Rattle.gte_vertices.specs.Vertices.{rotated, vertexAt, vertexChecksAt}

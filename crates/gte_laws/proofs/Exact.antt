@@ -10,13 +10,13 @@ use lib.IntN.{ℤ}
 use lib.ListN.{length}
 use Rattle.gte_arithmetic.specs.Checks.{Check, or, flags, flagWord, bitAt, counted}
 use Rattle.gte_arithmetic.specs.Values.{mac0Checks}
-use Rattle.gte_line.specs.declared.Line.{Line}
+use Rattle.gte_values.specs.declared.Line.{Line}
 use Rattle.gte_arithmetic.proofs.Flags.{flags-bit, flags-++, flag-word-bit, clear-31, clear-all}
 use Rattle.gte_projection.specs.Projection.{vertexOf}
 use Rattle.gte_depth.specs.Depth.{averageChecks, averageOf}
-use Rattle.gte_projection.specs.declared.Vertex.{Vertex}
-use Rattle.gte_depth.specs.declared.Average.{Average}
-use Rattle.gte_colour.specs.declared.Shade.{Shade}
+use Rattle.gte_values.specs.declared.Vertex.{Vertex}
+use Rattle.gte_values.specs.declared.Average.{Average}
+use Rattle.gte_values.specs.declared.Shade.{Shade}
 use Rattle.gte_registers.specs.Registers.{reg, kinds, readOf, reads, pushedXY}
 use Rattle.gte_registers.proofs.Views.{spelt}
 use Rattle.gte_inputs.specs.Inputs.{Inputs, inputsOf}

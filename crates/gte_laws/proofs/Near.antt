@@ -17,10 +17,10 @@ use Rattle.integers.specs.Clamp.{outside, inside, clamp-clear}
 use Rattle.words.specs.Words.{lowSigned, highHalf}
 use Rattle.gte_arithmetic.specs.Checks.{some, counted}
 use Rattle.gte_arithmetic.specs.Values.{macOf, irOf, depthOf, screenOf, quotient, ratioOf}
-use Rattle.gte_sums.specs.declared.Wide.{Wide}
+use Rattle.gte_values.specs.declared.Wide.{Wide}
 use Rattle.gte_arithmetic.proofs.Flags.{fst}
 use Rattle.gte_projection.specs.Projection.{exactOf, farOf, pairOf, screenChecks, onScreen, vertexChecks, vertexOf}
-use Rattle.gte_projection.specs.declared.Camera.{Camera}
+use Rattle.gte_values.specs.declared.Camera.{Camera}
 use Rattle.gte_laws.specs.Demand.{tolerance, Close}
 use Rattle.gte_laws.proofs.Distance.{close, quotient-error}
 

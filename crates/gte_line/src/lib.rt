@@ -9,19 +9,14 @@ use gte_arithmetic::lowest_ir;
 use gte_store::shift;
 use gte_store::store_mac;
 use gte_store::within;
-use gte_sums::Long;
-use gte_sums::Vector;
-use gte_sums::Wide;
+use gte_values::Line;
+use gte_values::Long;
+use gte_values::Vector;
+use gte_values::Wide;
 
 pub struct Cell {
     pub mac: i32,
     pub ir: i16,
-    pub flag: u32,
-}
-
-pub struct Line {
-    pub mac: Long,
-    pub ir: Vector,
     pub flag: u32,
 }
 

@@ -8,10 +8,10 @@ use Rattle.gte_arithmetic.specs.Checks.{Check, flags}
 use Rattle.gte_arithmetic.specs.Values.{macOf, sumChecks, irCheck}
 use Rattle.gte_sums.specs.Sums.{entry, noLong, productOf}
 use Rattle.gte_line.specs.Line.{lineWith, lineOf, lineChecksAt}
-use Rattle.gte_sums.specs.declared.Vector.{Vector}
-use Rattle.gte_sums.specs.declared.Long.{Long}
-use Rattle.gte_sums.specs.declared.Wide.{Wide}
-use Rattle.gte_line.specs.declared.Line.{Line}
+use Rattle.gte_values.specs.declared.Vector.{Vector}
+use Rattle.gte_values.specs.declared.Long.{Long}
+use Rattle.gte_values.specs.declared.Wide.{Wide}
+use Rattle.gte_values.specs.declared.Line.{Line}
 use Rattle.gte_inputs.specs.Inputs.{Inputs}
 
 -- matrix 3: -60h, 60h, IR0, three times RT13, three times RT22

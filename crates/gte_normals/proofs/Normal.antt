@@ -5,7 +5,7 @@ use mathlib.Core.List.{List, [], _++_}
 use Prim.Native.Nat.{ℕ}
 use Rattle.gte_arithmetic.specs.Checks.{or, Check, flags}
 use Rattle.gte_line.specs.Line.{lineChecks, lineChecksAt}
-use Rattle.gte_sums.specs.declared.Wide.{Wide}
+use Rattle.gte_values.specs.declared.Wide.{Wide}
 use Rattle.gte_arithmetic.proofs.Flags.{or-assoc, or-comm, or-left-comm, or-none, or-same}
 use Rattle.gte_colour.specs.Shade.{shadeChecks}
 use Rattle.gte_inputs.specs.Inputs.{Inputs}

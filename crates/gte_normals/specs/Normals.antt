@@ -7,12 +7,12 @@ use Rattle.gte_arithmetic.specs.Checks.{Check}
 use Rattle.gte_arithmetic.specs.Values.{macOf, irCheck, colourCheck}
 use Rattle.gte_sums.specs.Sums.{noLong, productOf}
 use Rattle.gte_line.specs.Line.{lineWith, lineOf, lineChecks}
-use Rattle.gte_sums.specs.declared.Vector.{Vector}
-use Rattle.gte_sums.specs.declared.Wide.{Wide}
-use Rattle.gte_line.specs.declared.Line.{Line}
+use Rattle.gte_values.specs.declared.Vector.{Vector}
+use Rattle.gte_values.specs.declared.Wide.{Wide}
+use Rattle.gte_values.specs.declared.Line.{Line}
 use Rattle.gte_tones.specs.Tones.{tonesOf}
 use Rattle.gte_colour.specs.Shade.{shadeChecks}
-use Rattle.gte_colour.specs.declared.Shade.{Shade}
+use Rattle.gte_values.specs.declared.Shade.{Shade}
 use Rattle.gte_inputs.specs.Inputs.{Inputs, normal}
 use Rattle.gte_cueing.specs.Cueing.{shadeWith, plainEnd, cuedChecks, cuedEnd, backSums, backIr}
 

@@ -3,9 +3,9 @@ use mathlib.Core.Bool.{Bool}
 use Prim.Native.Nat.{_*_}
 use lib.IntN.{ℤ, pos, _+ℤ_, _-ℤ_, _*ℤ_}
 use Rattle.gte_arithmetic.specs.Values.{scale}
-use Rattle.gte_sums.specs.declared.Vector.{Vector}
-use Rattle.gte_sums.specs.declared.Long.{Long}
-use Rattle.gte_sums.specs.declared.Wide.{Wide}
+use Rattle.gte_values.specs.declared.Vector.{Vector}
+use Rattle.gte_values.specs.declared.Long.{Long}
+use Rattle.gte_values.specs.declared.Wide.{Wide}
 
 -- [IR1, IR2, IR3] · IR0, for GPF
 unfoldable pub scaledOf : Vector → ℤ → Wide

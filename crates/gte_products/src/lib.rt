@@ -6,9 +6,9 @@ ghost use Rattle.integers.specs.Parts.{Mag};
 ghost use Rattle.gte_sums.specs.Sums.{Bounded};
 ghost use Rattle.gte_arithmetic.specs.Values.{scale};
 ghost use Rattle.gte_products.specs.Products.{scaledOf, scaledFrom, squaresOf, crossOf};
-use gte_sums::Long;
-use gte_sums::Vector;
-use gte_sums::Wide;
+use gte_values::Long;
+use gte_values::Vector;
+use gte_values::Wide;
 
 // The product of two signed halves.
 pub fn times(a: i16, b: i16) -> i64

@@ -9,10 +9,10 @@ use mir.Val.{ofZ}
 use Rattle.integers.specs.Wrap.{wrap}
 use Rattle.gte_arithmetic.specs.Checks.{Check, flags}
 use Rattle.gte_arithmetic.specs.Values.{macOf, irOf, depthOf, screenOf, factorOf, ratioOf, sumChecks, mac0Checks, irCheck, depthCheck, divisionCheck, screenCheck, factorCheck}
-use Rattle.gte_sums.specs.declared.Wide.{Wide}
-use Rattle.gte_projection.specs.declared.Camera.{Camera}
+use Rattle.gte_values.specs.declared.Wide.{Wide}
+use Rattle.gte_values.specs.declared.Camera.{Camera}
 use Rattle.gte_projection.specs.declared.Screen.{Screen}
-use Rattle.gte_projection.specs.declared.Vertex.{Vertex}
+use Rattle.gte_values.specs.declared.Vertex.{Vertex}
 
 -- a MAC0 value of lines 5 to 7: the quotient times a factor, plus an offset, exact
 unfoldable pub exactOf : ℕ → ℤ → ℤ → ℤ

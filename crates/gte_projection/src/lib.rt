@@ -22,22 +22,15 @@ use gte_store::cut;
 use gte_store::store_mac0;
 use gte_store::within;
 use gte_store::wrap_44;
-use gte_sums::Long;
-use gte_sums::Vector;
-use gte_sums::Wide;
+use gte_values::Camera;
+use gte_values::Long;
+use gte_values::Vector;
+use gte_values::Vertex;
+use gte_values::Wide;
 use shifts::low_signed;
 use shifts::shift_12;
 use shifts::shift_16;
 use words::to_bits;
-
-// H (unsigned), the screen offset and the depth cueing of registers 56 to 60.
-pub struct Camera {
-    pub h: u32,
-    pub ofx: i32,
-    pub ofy: i32,
-    pub dqa: i16,
-    pub dqb: i32,
-}
 
 // What lines 5 to 7 give.
 pub struct Screen {
@@ -59,17 +52,6 @@ pub struct Third {
     pub mac: i32,
     pub ir: i16,
     pub sz: u32,
-    pub flag: u32,
-}
-
-// What one part of RTPS or RTPT leaves.
-pub struct Vertex {
-    pub mac0: i32,
-    pub mac: Long,
-    pub ir0: u32,
-    pub ir: Vector,
-    pub sz: u32,
-    pub xy: u32,
     pub flag: u32,
 }
 

@@ -4,11 +4,11 @@ use mathlib.Core.Bool.{Bool}
 use mathlib.Core.List.{List, _++_}
 use Rattle.gte_arithmetic.specs.Checks.{Check}
 use Rattle.gte_line.specs.Line.{lineChecks}
-use Rattle.gte_sums.specs.declared.Wide.{Wide}
+use Rattle.gte_values.specs.declared.Wide.{Wide}
 use Rattle.gte_tones.specs.Tones.{tonesOf}
 use Rattle.gte_products.specs.Products.{scaledOf, scaledFrom}
 use Rattle.gte_colour.specs.Shade.{shadeChecks}
-use Rattle.gte_colour.specs.declared.Shade.{Shade}
+use Rattle.gte_values.specs.declared.Shade.{Shade}
 use Rattle.gte_inputs.specs.Inputs.{Inputs}
 use Rattle.gte_cueing.specs.Cueing.{shadeWith, plainEnd, cuedChecks, cuedEnd, backSums, backIr}
 

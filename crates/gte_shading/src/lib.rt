@@ -4,7 +4,6 @@ ghost use Rattle.gte_registers.specs.Registers.{view, reads};
 ghost use Rattle.gte_inputs.specs.Inputs.{inputsOf};
 ghost use Rattle.gte_shading.specs.Shading.{ccOf, cdpOf, gpfOf, gplOf};
 ghost use Rattle.gte_effects.specs.Effects.{shadeLeft};
-use gte_colour::Shade;
 use gte_colour::finish_colour;
 use gte_cueing::back_sums;
 use gte_cueing::cue;
@@ -15,6 +14,7 @@ use gte_line::finish;
 use gte_products::scaled;
 use gte_products::scaled_from;
 use gte_tones::tones;
+use gte_values::Shade;
 use gte_vectors::ir;
 use gte_vectors::macs;
 

@@ -5,8 +5,8 @@ use lib.IntN.{ℤ}
 use Rattle.gte_arithmetic.specs.Checks.{Check}
 use Rattle.gte_sums.specs.Sums.{entry}
 use Rattle.gte_line.specs.Line.{lineWith, lineOf, lineChecksAt}
-use Rattle.gte_sums.specs.declared.Vector.{Vector}
-use Rattle.gte_line.specs.declared.Line.{Line}
+use Rattle.gte_values.specs.declared.Vector.{Vector}
+use Rattle.gte_values.specs.declared.Line.{Line}
 use Rattle.gte_products.specs.Products.{squaresOf, crossOf}
 use Rattle.gte_inputs.specs.Inputs.{Inputs}
 

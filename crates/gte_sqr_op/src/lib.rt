@@ -9,7 +9,7 @@ use gte_line::finish;
 use gte_matrices::rotation;
 use gte_products::cross;
 use gte_products::squares;
-use gte_sums::Vector;
+use gte_values::Vector;
 use gte_vectors::ir;
 
 pub fn sqr(c: &mut [u32; 64], sf: bool, lm: bool)

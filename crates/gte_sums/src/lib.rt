@@ -4,27 +4,9 @@ ghost use Prim.Native.Nat.{_*_, _^_, _<_};
 ghost use lib.IntN.{pos, _+ℤ_, _*ℤ_};
 ghost use Rattle.integers.specs.Parts.{Mag};
 ghost use Rattle.gte_sums.specs.Sums.{rowOf, productOf, Bounded};
-
-// V0..V2, or IR1..3.
-pub struct Vector {
-    pub x: i16,
-    pub y: i16,
-    pub z: i16,
-}
-
-// TR, BK, FC, or MAC1..3.
-pub struct Long {
-    pub x: i32,
-    pub y: i32,
-    pub z: i32,
-}
-
-// Three exact values.
-pub struct Wide {
-    pub x: i64,
-    pub y: i64,
-    pub z: i64,
-}
+use gte_values::Long;
+use gte_values::Vector;
+use gte_values::Wide;
 
 // T·1000h and three products, exact.
 fn add_row(t: i32, a: i16, b: i16, c: i16, x: i16, y: i16, z: i16) -> i64

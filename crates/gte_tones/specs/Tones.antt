@@ -1,8 +1,8 @@
 -- The exact values from which the colour commands start: what stands in 001's lines before MAC is stored.
 use Prim.Native.Nat.{ℕ, _*_, _/_, _%_}
 use lib.IntN.{pos, _*ℤ_}
-use Rattle.gte_sums.specs.declared.Vector.{Vector}
-use Rattle.gte_sums.specs.declared.Wide.{Wide}
+use Rattle.gte_values.specs.declared.Vector.{Vector}
+use Rattle.gte_values.specs.declared.Wide.{Wide}
 
 -- R, G and B of a colour word
 abbrev pub red : ℕ → ℕ

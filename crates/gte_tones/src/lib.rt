@@ -5,8 +5,8 @@ ghost use lib.IntN.{pos, _*ℤ_};
 ghost use Rattle.integers.specs.Parts.{Mag};
 ghost use Rattle.gte_sums.specs.Sums.{Bounded};
 ghost use Rattle.gte_tones.specs.Tones.{tonesOf, levelsOf, raisedOf};
-use gte_sums::Vector;
-use gte_sums::Wide;
+use gte_values::Vector;
+use gte_values::Wide;
 
 // A colour byte times IR, by 16.
 fn tone(r: u32, ir: i16) -> i64

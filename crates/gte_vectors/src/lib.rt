@@ -2,8 +2,8 @@
 ghost use mathlib.Core.Path.{_≡_};
 ghost use Prim.Native.Nat.{_<_};
 ghost use Rattle.gte_inputs.specs.Inputs.{longOf, inputsOf, normal};
-use gte_sums::Long;
-use gte_sums::Vector;
+use gte_values::Long;
+use gte_values::Vector;
 use words::high_half;
 use words::low_half;
 use words::to_signed;

@@ -4,8 +4,8 @@ use mathlib.Core.List.{List}
 use Prim.Native.Nat.{ℕ}
 use lib.IntN.{ℤ}
 use lib.ListN.{length}
-use Rattle.gte_projection.specs.declared.Vertex.{Vertex}
-use Rattle.gte_depth.specs.declared.Average.{Average}
+use Rattle.gte_values.specs.declared.Vertex.{Vertex}
+use Rattle.gte_values.specs.declared.Average.{Average}
 use Rattle.gte_registers.specs.Registers.{kinds, readOf, reads, view, pushedXY}
 use Rattle.gte_registers.proofs.Views.{short-short, half-half, fields-short, from, spelt}
 use Rattle.gte_effects.specs.Effects.{stored, flagged}

@@ -8,8 +8,8 @@ use mir.Val.{ofZ}
 use Rattle.integers.specs.Wrap.{wrap}
 use Rattle.gte_arithmetic.specs.Checks.{flags, or}
 use Rattle.gte_arithmetic.specs.Values.{mac0Checks}
-use Rattle.gte_projection.specs.declared.Vertex.{Vertex}
-use Rattle.gte_depth.specs.declared.Average.{Average}
+use Rattle.gte_values.specs.declared.Vertex.{Vertex}
+use Rattle.gte_values.specs.declared.Average.{Average}
 use Rattle.gte_registers.specs.Registers.{reg, pushedXY}
 use Rattle.gte_effects.specs.Effects.{stored, flagged}
 

@@ -2,10 +2,10 @@
 ghost use mathlib.Core.Path.{_≡_};
 ghost use Rattle.gte_registers.specs.Registers.{view, reads};
 ghost use Rattle.gte_vertex_effects.specs.VertexEffects.{pushedZ, pushedVertex, vertexKept, vertexLeft, verticesLeft, averageLeft};
-use gte_depth::Average;
 use gte_effects::store;
-use gte_projection::Vertex;
 use gte_registers::sized;
+use gte_values::Average;
+use gte_values::Vertex;
 use gte_writes::push_xy;
 use words::to_bits;
 

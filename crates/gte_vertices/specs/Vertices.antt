@@ -4,9 +4,9 @@ use mathlib.Core.List.{List}
 use Prim.Native.Nat.{ℕ}
 use Rattle.gte_arithmetic.specs.Checks.{Check}
 use Rattle.gte_sums.specs.Sums.{productOf}
-use Rattle.gte_sums.specs.declared.Wide.{Wide}
+use Rattle.gte_values.specs.declared.Wide.{Wide}
 use Rattle.gte_projection.specs.Projection.{vertexOf, vertexChecks}
-use Rattle.gte_projection.specs.declared.Vertex.{Vertex}
+use Rattle.gte_values.specs.declared.Vertex.{Vertex}
 use Rattle.gte_inputs.specs.Inputs.{Inputs, normal}
 
 -- the exact sums TR·1000h + RT·V

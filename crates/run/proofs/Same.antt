@@ -6,7 +6,8 @@ use lib.Bits.{bitAnd, and-zero-r}
 use lib.Dec.{eqb}
 use Rattle.gte_registers.specs.Registers.{reg}
 use Rattle.delay.specs.State.{State}
-use Rattle.processor.specs.Step.{Tick, stepOf}
+use Rattle.perform.specs.Perform.{Tick}
+use Rattle.processor.specs.Step.{stepOf}
 use Rattle.run.specs.Run.{Run, ran, further, onwards, runOf}
 use Rattle.run.specs.Search.{clearOf, risesOf, foundOf, Search, sought, furtherBy, searchOn, searchOf, searchedBy}
 

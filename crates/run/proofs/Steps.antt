@@ -5,7 +5,8 @@ use native.Mathlib.Numerals.{add-one}
 use mathlib.Core.Bool.{Bool, true, false, cond}
 use mathlib.Core.Path.{_≡_, refl, sym, ap, _∙_}
 use Rattle.delay.specs.State.{State}
-use Rattle.processor.specs.Step.{Tick, tick, stepOf}
+use Rattle.perform.specs.Perform.{Tick, tick}
+use Rattle.processor.specs.Step.{stepOf}
 use Rattle.run.specs.Run.{Run, ran, further, onwards, runOf}
 
 one-more : (i : ℕ) (s₀ s : State) (t : Tick) → runOf i s₀ ≡ ran false i s → t ≡ stepOf s → runOf (i + 1) s₀ ≡ further (ran false i s) t

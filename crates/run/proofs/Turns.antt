@@ -9,7 +9,8 @@ use mathlib.Core.Path.{_≡_, refl, sym, ap, _∙_}
 use lib.Dec.{eqb}
 use lib.ListN.{length}
 use Rattle.delay.specs.State.{State}
-use Rattle.processor.specs.Step.{Tick, tick, stepOf}
+use Rattle.perform.specs.Perform.{Tick, tick}
+use Rattle.processor.specs.Step.{stepOf}
 use Rattle.run.specs.Search.{clearOf, risesOf, foundOf, Search, sought, furtherBy, searchOn, searchOf}
 
 -- what holds after i steps of a search from s₀ that goes on: it is at s

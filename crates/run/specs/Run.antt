@@ -2,7 +2,8 @@
 use mathlib.Core.Bool.{Bool, false, cond}
 use Prim.Native.Nat.{ℕ, zero, suc, _+_}
 use Rattle.delay.specs.State.{State}
-use Rattle.processor.specs.Step.{Tick, stepOf}
+use Rattle.perform.specs.Perform.{Tick}
+use Rattle.processor.specs.Step.{stepOf}
 
 -- whether the run stands before an unlisted COP2 command, the steps completed, and the machine after them
 pub record Run : Type 0 where

@@ -5,7 +5,8 @@ use lib.Bits.{bitAnd}
 use lib.Dec.{eqb}
 use Rattle.gte_registers.specs.Registers.{reg}
 use Rattle.delay.specs.State.{State}
-use Rattle.processor.specs.Step.{Tick, stepOf}
+use Rattle.perform.specs.Perform.{Tick}
+use Rattle.processor.specs.Step.{stepOf}
 use Rattle.run.specs.Run.{Run}
 
 -- none of a mask's bits is set in FLAG

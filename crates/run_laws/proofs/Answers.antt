@@ -12,7 +12,8 @@ use Rattle.addresses.specs.Addresses.{ramLength}
 use Rattle.formed.specs.Formed.{wellFormed}
 use Rattle.image.specs.Image.{machineOf, imageOf}
 use Rattle.run.specs.Run.{Run, ran, runOf}
-use Rattle.fliskadee.specs.Answer.{Answer, answer, packed, codeOf, finished, unlessRefused, answerOf}
+use Rattle.image_run.specs.Find.{Answer, answer, packed, unlessRefused}
+use Rattle.fliskadee.specs.Answer.{codeOf, finished, answerOf}
 use Rattle.admission.specs.Refusals.{mostSteps, afterFormed, refusalOf}
 use Rattle.step_laws.specs.Formed.{StateFormed}
 use Rattle.run_laws.specs.Runs.{joined, Accepted, codeIn, stepsIn, Again, AcceptedAgain, Cut, CutInTwo}

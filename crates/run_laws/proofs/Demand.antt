@@ -15,7 +15,8 @@ use Rattle.isa.specs.Execute.{executeOf}
 use Rattle.addresses.specs.Addresses.{ramLength}
 use Rattle.delay.specs.State.{State}
 use Rattle.effects.specs.Effects.{nextStep}
-use Rattle.processor.specs.Step.{Tick, tick, geometryStep, afterCommand, performOf, issueOf, stepOf}
+use Rattle.perform.specs.Perform.{Tick, tick, geometryStep, performOf}
+use Rattle.processor.specs.Step.{afterCommand, commandStep, issueOf, stepOf}
 use Rattle.gte_arithmetic.specs.Checks.{bitAt}
 use Rattle.gte_registers.specs.Registers.{reg}
 use Rattle.gte.specs.Commands.{Command, commandIn, sfOf, listed, outcomeOf, commandOf}
@@ -26,7 +27,8 @@ use Rattle.gte_laws.proofs.Demand.{demand-3}
 use Rattle.image.specs.Image.{geometryIn, machineOf, imageOf}
 use Rattle.run.specs.Run.{Run, ran, further, onwards, runOf}
 use Rattle.run.proofs.Steps.{stays}
-use Rattle.fliskadee.specs.Answer.{Answer, packed, codeOf, finished, answerOf}
+use Rattle.image_run.specs.Find.{Answer, packed}
+use Rattle.fliskadee.specs.Answer.{codeOf, finished, answerOf}
 use Rattle.admission.specs.Refusals.{mostSteps}
 use Rattle.step_laws.specs.Formed.{StateFormed}
 use Rattle.run_laws.specs.Runs.{Accepted, stepsIn}
@@ -93,7 +95,7 @@ unfolding runOf
 last-is k s e = last-by (runOf k s .stop) (runOf k s) refl e
 
 -- ---- the step that carries out a listed command
-effect-is : (o : Op) (word : ℕ) (s : State) (x y z : ℕ) → o ≡ D.Command → outcomeOf word ≡ O.Done → performOf (executeOf o (fieldsOf word) x y z (s .control .product)) s .after .geometry ≡ commandOf word (s .geometry)
+effect-is : (o : Op) (word : ℕ) (s : State) (x y z : ℕ) → o ≡ D.Command → outcomeOf word ≡ O.Done → performOf commandStep (executeOf o (fieldsOf word) x y z (s .control .product)) s .after .geometry ≡ commandOf word (s .geometry)
 unfolding executeOf performOf fieldsOf nextStep
 effect-is o word s x y z e d = rw (e, d)
 

@@ -7,7 +7,8 @@ use mathlib.Core.Path.{_≡_, refl, sym, ap, ap₂, _∙_}
 use lib.Dec.{eqb}
 use borrow.Author.Tests.{eqb-true, eqb-false}
 use Rattle.delay.specs.State.{State}
-use Rattle.processor.specs.Step.{Tick, tick, stepOf}
+use Rattle.perform.specs.Perform.{Tick, tick}
+use Rattle.processor.specs.Step.{stepOf}
 use Rattle.run.specs.Run.{Run, ran, onwards, runOf}
 use Rattle.run.proofs.Steps.{goes-on}
 use Rattle.run.specs.Search.{risesOf, foundOf, Search, sought, furtherBy, searchOn, searchOf}

@@ -9,7 +9,8 @@ use Rattle.byte_order.specs.Bytes.{wordsAt, bytesOf}
 use Rattle.byte_order.proofs.Rows.{read-append, bytes-back}
 use Rattle.addresses.specs.Addresses.{ramLength}
 use Rattle.delay.specs.State.{State}
-use Rattle.processor.specs.Step.{Tick, stepOf}
+use Rattle.perform.specs.Perform.{Tick}
+use Rattle.processor.specs.Step.{stepOf}
 use Rattle.image.specs.Image.{registersIn, controlIn, geometryIn, controlOf, controlWords, machineOf, imageOf}
 use Rattle.formed.proofs.Facts.{formed-in}
 use Rattle.run.specs.Run.{Run, ran, further, onwards, runOf}

@@ -9,7 +9,7 @@ use Rattle.loads.specs.declared.LoadKind.the-variants.{Word}
 use Rattle.loads.specs.declared.Loaded.the-variants.{Value}
 use Rattle.control.specs.System.{usableOf}
 use Rattle.delay.specs.State.{State}
-use Rattle.processor.specs.Step.{loaded}
+use Rattle.perform.specs.Perform.{loaded}
 use Rattle.gte_arithmetic.specs.Checks.{bitAt}
 use Rattle.gte_registers.specs.Registers.{reg}
 use Rattle.gte.specs.Commands.{commandIn, sfOf}

@@ -29,7 +29,8 @@ use Rattle.control.specs.System as C
 use Rattle.exceptions.specs.Exceptions as X
 use Rattle.effects.specs.Effects.{writeStep}
 use Rattle.traps.specs.Traps.{trapStep}
-use Rattle.processor.specs.Step.{performOf, issueOf, stepOf}
+use Rattle.perform.specs.Perform.{performOf}
+use Rattle.processor.specs.Step.{issueOf, stepOf}
 use Rattle.step_laws.specs.Figures.{Figure, figures}
 
 pub bench-figures : map (λ (f : Figure). f .got) figures ≡ map (λ (f : Figure). f .said) figures

@@ -40,7 +40,8 @@ use Rattle.delay.specs.State.{State, state}
 use Rattle.delay.specs.Delay.{landed, landedUnless, withRegister, pendingOf, currentOf}
 use Rattle.effects.specs.Effects.{nextStep, writeStep, jumpStep, linkStep, productStep, systemStep, waitStep}
 use Rattle.traps.specs.Traps.{trapStep, faultStep}
-use Rattle.processor.specs.Step.{Tick, tick, geometryStep, loaded, afterLoad, loadStep, loadGeometryStep, afterStore, storeStep, afterCommand, performOf, issueOf, afterFetch, stepOf}
+use Rattle.perform.specs.Perform.{Tick, tick, geometryStep, loaded, afterLoad, loadStep, loadGeometryStep, afterStore, storeStep, performOf}
+use Rattle.processor.specs.Step.{afterCommand, commandStep, issueOf, afterFetch, stepOf}
 use Rattle.step_laws.specs.Formed.{Only, RegistersFormed, PendingFormed, SystemFormed, StateFormed}
 use Rattle.step_laws.proofs.Masks.{masked, sr-low, cause-raised, cause-written}
 
@@ -178,7 +179,7 @@ after-formed : (o : Outcome) (word : ℕ) (s : State) → StateFormed s → Stat
 after-formed O.Done word s g = geometry-formed s (commandOf word (s .geometry)) g (command-formed word (s .geometry) (g .geometry))
 after-formed O.Unlisted word s g = g
 
-perform-formed : (e : Effect) (s : State) → StateFormed s → StateFormed (performOf e s .after)
+perform-formed : (e : Effect) (s : State) → StateFormed s → StateFormed (performOf commandStep e s .after)
 unfolding performOf loadStep loadGeometryStep
 perform-formed (E.Write n v) s g = write-step s g n v
 perform-formed (E.Jump t) s g = jump-formed s g t
@@ -205,7 +206,7 @@ effectOf word s =
 issue-formed : (word : ℕ) (s : State) → StateFormed s → StateFormed (issueOf word s .after)
 unfolding issueOf
 issue-formed word s g = by-test (usableOf (ownerOf word) (s .control .system)) where
-  by-test : (b : Bool) → StateFormed (cond b (performOf (effectOf word s) s) (tick false (trapStep 11 (numberOf (ownerOf word)) s)) .after)
+  by-test : (b : Bool) → StateFormed (cond b (performOf commandStep (effectOf word s) s) (tick false (trapStep 11 (numberOf (ownerOf word)) s)) .after)
   by-test true = perform-formed (effectOf word s) s g
   by-test false = trap-formed s g 11 (numberOf (ownerOf word))
 

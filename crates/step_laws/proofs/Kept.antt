@@ -33,7 +33,8 @@ use Rattle.delay.specs.Delay.{currentOf}
 use Rattle.effects.specs.Effects.{nextStep, writeStep, jumpStep, linkStep, productStep, systemStep, waitStep}
 use Rattle.traps.specs.Traps.{trapStep, faultStep}
 use Rattle.step_laws.proofs.Formed.{effectOf}
-use Rattle.processor.specs.Step.{Tick, tick, geometryStep, loaded, afterLoad, loadStep, loadGeometryStep, afterStore, storeStep, afterCommand, performOf, issueOf, afterFetch, stepOf}
+use Rattle.perform.specs.Perform.{Tick, tick, geometryStep, loaded, afterLoad, loadStep, loadGeometryStep, afterStore, storeStep, performOf}
+use Rattle.processor.specs.Step.{afterCommand, commandStep, issueOf, afterFetch, stepOf}
 
 -- ---- the length of RAM
 written-long : (k : StoreKind) (m : List ℕ) (at x : ℕ) → length (M.writeOf k m at x) ≡ length m
@@ -108,7 +109,7 @@ command-kept : (o : Outcome) (word : ℕ) (s : State) → Kept (afterCommand o w
 command-kept O.Done word s = going _ s (geometry-long (commandOf word (s .geometry)) s)
 command-kept O.Unlisted word s = record { long = refl; stays = λ h. refl }
 
-perform-kept : (e : Effect) (s : State) → Kept (performOf e s) s
+perform-kept : (e : Effect) (s : State) → Kept (performOf commandStep e s) s
 unfolding performOf writeStep jumpStep linkStep productStep systemStep loadStep loadGeometryStep
 perform-kept (E.Write n v) s = going _ s refl
 perform-kept (E.Jump t) s = going _ s refl
@@ -130,7 +131,7 @@ perform-kept (E.StoreGeometry k v) s = going _ s (stored-long s W.Word (reg (s .
 issue-kept : (word : ℕ) (s : State) → Kept (issueOf word s) s
 unfolding issueOf
 issue-kept word s = by-test (usableOf (ownerOf word) (s .control .system)) where
-  by-test : (b : Bool) → Kept (cond b (performOf (effectOf word s) s) (tick false (trapStep 11 (numberOf (ownerOf word)) s))) s
+  by-test : (b : Bool) → Kept (cond b (performOf commandStep (effectOf word s) s) (tick false (trapStep 11 (numberOf (ownerOf word)) s))) s
   by-test true = perform-kept (effectOf word s) s
   by-test false = going _ s (trap-long 11 (numberOf (ownerOf word)) s)
 

@@ -11,7 +11,7 @@ use Rattle.integers.specs.Clamp.{outside}
 use Rattle.gte_arithmetic.specs.Checks.{or, raise, flags}
 use Rattle.gte_arithmetic.specs.Values.{macOf, irOf, colourOf, sumFlag}
 use Rattle.gte_line.specs.Line.{cellOf}
-use Rattle.gte_sums.specs.declared.Wide.{Wide}
+use Rattle.gte_values.specs.declared.Wide.{Wide}
 use Rattle.gte_arithmetic.proofs.Flags.{or-assoc, or-none}
 use Rattle.gte_colour.specs.Shade.{colourWord, shadeChecks, shadeOf}
 use Rattle.gte_colour.specs.declared.Channel.{Channel}

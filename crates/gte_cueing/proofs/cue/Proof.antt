@@ -4,7 +4,7 @@ use mathlib.Core.Path.{_≡_}
 use mathlib.Core.Bool.{Bool}
 use mir.Syntax.{w16}
 use Rattle.integers.specs.Bound.{back}
-use Rattle.gte_sums.specs.declared.Wide.{Wide}
+use Rattle.gte_values.specs.declared.Wide.{Wide}
 use Rattle.gte_colour.specs.Shade.{mixedOf, shadeOf}
 use Rattle.gte_inputs.specs.Inputs.{Inputs, inputsOf}
 use Rattle.gte_cueing.specs.Cueing.{depthCued}

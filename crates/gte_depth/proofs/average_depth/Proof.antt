@@ -15,7 +15,7 @@ use Rattle.gte_arithmetic.specs.Checks.{or, raise, flags}
 use Rattle.gte_arithmetic.specs.Values.{depthOf, mac0Flag}
 use Rattle.gte_arithmetic.proofs.Flags.{or-assoc, or-none}
 use Rattle.gte_depth.specs.Depth.{averageOf, averageChecks}
-use Rattle.gte_depth.specs.declared.Average.{Average}
+use Rattle.gte_values.specs.declared.Average.{Average}
 use Rattle.gte_depth.proofs.average_depth.Statement.{statement}
 use Rattle.gte_depth.proofs.average_depth.Tie as tie
 

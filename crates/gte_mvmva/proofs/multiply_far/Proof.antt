@@ -9,7 +9,7 @@ use Rattle.integers.specs.Parts.{Mag, posPart, negPart, zarith, no-lt}
 use Rattle.gte_arithmetic.specs.Checks.{or, flags}
 use Rattle.gte_line.specs.Line.{lineWith, lineOf, lineChecks, lineChecksAt}
 use Rattle.gte_sums.specs.Sums.{Bounded, productOf}
-use Rattle.gte_sums.specs.declared.Wide.{Wide}
+use Rattle.gte_values.specs.declared.Wide.{Wide}
 use Rattle.gte_arithmetic.proofs.Flags.{or-assoc, or-none, none-or}
 use Rattle.gte_mvmva.specs.Multiply.{thirdsOf, sumFlags, farChecks, farOf}
 use Rattle.gte_arithmetic.proofs.Flags.{or-left-comm}

@@ -5,7 +5,7 @@ use mir.Syntax.{w64}
 use Rattle.integers.specs.Bound.{back}
 use Rattle.gte_arithmetic.specs.Checks.{or, flags}
 use Rattle.gte_arithmetic.specs.Values.{sumFlag}
-use Rattle.gte_sums.specs.declared.Wide.{Wide}
+use Rattle.gte_values.specs.declared.Wide.{Wide}
 use Rattle.gte_arithmetic.proofs.Flags.{or-assoc, or-none}
 use Rattle.gte_mvmva.specs.Multiply.{sumFlags}
 use Rattle.gte_mvmva.proofs.sum_flags.Statement.{statement}

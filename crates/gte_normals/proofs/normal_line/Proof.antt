@@ -5,7 +5,7 @@ use mathlib.Core.Bool.{Bool}
 use Prim.Native.Nat.{ℕ}
 use Rattle.gte_arithmetic.specs.Checks.{or}
 use Rattle.gte_line.specs.Line.{lineOf}
-use Rattle.gte_line.specs.declared.Line.{Line}
+use Rattle.gte_values.specs.declared.Line.{Line}
 use Rattle.gte_inputs.specs.Inputs.{Inputs, inputsOf}
 use Rattle.gte_normals.specs.Normals.{lightSums, normalLine}
 use Rattle.gte_cueing.specs.Cueing.{backSums}

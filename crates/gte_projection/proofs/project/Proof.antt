@@ -11,12 +11,12 @@ use Rattle.integers.specs.Parts.{posPart, negPart, natAbs-gap, pos-nonneg, zari
 use Rattle.gte_arithmetic.specs.Checks.{or, raise, flags}
 use Rattle.gte_line.specs.Line.{cellOf}
 use Rattle.gte_arithmetic.specs.Values.{macOf, irOf, depthOf, sumFlag}
-use Rattle.gte_sums.specs.declared.Wide.{Wide}
+use Rattle.gte_values.specs.declared.Wide.{Wide}
 use Rattle.gte_arithmetic.proofs.Flags.{or-assoc}
 use Rattle.gte_projection.specs.Projection.{farOf, onScreen, vertexOf, vertexChecks}
-use Rattle.gte_projection.specs.declared.Camera.{Camera}
+use Rattle.gte_values.specs.declared.Camera.{Camera}
 use Rattle.gte_projection.specs.declared.Third.{Third}
-use Rattle.gte_projection.specs.declared.Vertex.{Vertex}
+use Rattle.gte_values.specs.declared.Vertex.{Vertex}
 use Rattle.gte_projection.proofs.project.Statement.{statement}
 use Rattle.gte_projection.proofs.project.Tie as tie
 

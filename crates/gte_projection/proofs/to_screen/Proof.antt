@@ -15,7 +15,7 @@ use Rattle.gte_arithmetic.specs.Values.{screenOf, factorOf, ratioOf, mac0Flag}
 use Rattle.gte_arithmetic.specs.declared.Short.{Short}
 use Rattle.gte_arithmetic.proofs.Flags.{or-assoc, or-none}
 use Rattle.gte_projection.specs.Projection.{exactOf, pairOf, onScreen, screenChecks}
-use Rattle.gte_projection.specs.declared.Camera.{Camera}
+use Rattle.gte_values.specs.declared.Camera.{Camera}
 use Rattle.gte_projection.specs.declared.Factor.{Factor}
 use Rattle.gte_projection.specs.declared.Screen.{Screen}
 use Rattle.gte_projection.proofs.to_screen.Statement.{statement}

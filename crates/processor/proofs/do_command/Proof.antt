@@ -2,7 +2,7 @@
 use mathlib.Core.Path.{ap}
 use mathlib.Core.Bool.{false}
 use Rattle.gte.specs.Commands.{commandOf}
-use Rattle.processor.specs.Step.{tick}
+use Rattle.perform.specs.Perform.{tick}
 use borrow.Author.Needs.{needs}
 use Rattle.processor.proofs.do_command.Statement.{statement}
 use Rattle.processor.proofs.do_command.Tie as tie
