@@ -67,13 +67,16 @@ or-false : (b : Bool) → (b || false) ≡ b
 or-false true = refl
 or-false false = refl
 
+and-none : (r : Run) → r ≡ ran (r .stop || false) (r .steps + 0) (r .last)
+and-none r = ap₂ (λ (b : Bool) (n : ℕ). ran b n (r .last)) (sym (or-false (r .stop))) (sym (add-zero (r .steps)))
+
 -- one step more of the second run is one step more of both together
 joined-on : (r q : Run) → (r .stop ≡ true → stepOf (q .last) ≡ tick true (q .last)) → onwards (joined r q) ≡ joined r (onwards q)
 unfolding onwards
 joined-on r q h = by-first (r .stop) (q .stop) h where
   by-first : (b d : Bool) → (b ≡ true → stepOf (q .last) ≡ tick true (q .last)) → cond (b || d) (ran (b || d) (r .steps + q .steps) (q .last)) (further (ran (b || d) (r .steps + q .steps) (q .last)) (stepOf (q .last))) ≡ joined (ran b (r .steps) (r .last)) (cond d (ran d (q .steps) (q .last)) (further (ran d (q .steps) (q .last)) (stepOf (q .last))))
   by-first true true f = refl
-  by-first true false f = rw (f refl)
+  by-first true false f = sym (ap (λ (t : Tick). joined (ran true (r .steps) (r .last)) (further (ran false (q .steps) (q .last)) t)) (f refl))
   by-first false true f = refl
   by-first false false f = steps-of (stepOf (q .last)) where
     steps-of : (t : Tick) → further (ran false (r .steps + q .steps) (q .last)) t ≡ joined (ran false (r .steps) (r .last)) (further (ran false (q .steps) (q .last)) t)
@@ -84,7 +87,7 @@ joined-on r q h = by-first (r .stop) (q .stop) h where
 
 stands : (d : Bool) (q : Run) → stepOf (q .last) ≡ tick true (q .last) → stepOf (cond d q (further q (stepOf (q .last))) .last) ≡ tick true (cond d q (further q (stepOf (q .last))) .last)
 stands true q h = h
-stands false q h = rw h h
+stands false q h = let a : stepOf (q .last) .after ≡ q .last = ap (λ (t : Tick). t .after) h in ap stepOf a ∙ h ∙ ap (tick true) (sym a)
 
 -- once the first has stopped the second stands where it stood
 stopped-on : (r : Run) (b : ℕ) → (r .stop ≡ true → stepOf (r .last) ≡ tick true (r .last)) → r .stop ≡ true → stepOf (runOf b (r .last) .last) ≡ tick true (runOf b (r .last) .last)
@@ -94,6 +97,7 @@ stopped-on r (suc b) f h = stands (runOf b (r .last) .stop) (runOf b (r .last)) 
 
 pub then-more : ThenMore
 unfolding runOf
-then-more a zero s = rw (add-zero, or-false, add-zero)
+then-more a zero s = ap (λ (k : ℕ). runOf k s) (add-zero a) ∙ and-none (runOf a s)
 then-more a (suc b) s =
-    rw (add-suc, then-more a b s) (joined-on (runOf a s) (runOf b (runOf a s .last)) (λ h. stopped-on (runOf a s) b (run-going a s .stays) h))
+    ap (λ (k : ℕ). runOf k s) (add-suc a b) ∙ ap onwards (then-more a b s)
+    ∙ joined-on (runOf a s) (runOf b (runOf a s .last)) (λ h. stopped-on (runOf a s) b (run-going a s .stays) h)
