@@ -5,8 +5,8 @@ use Prim.Native.Nat.{ℕ, _+_, _*_, _/_, _%_}
 use lib.Bits.{bitAnd}
 use Rattle.tables.specs.Table.{_⇒_, lookup}
 use Rattle.gte_arithmetic.specs.Checks.{bitAt}
-use Rattle.decode.specs.declared.Owner.{Owner}
-use Rattle.decode.specs.declared.Owner.the-variants.{Processor, Coprocessor0, Coprocessor1, Coprocessor2, Coprocessor3}
+use Rattle.owners.specs.declared.Owner.{Owner}
+use Rattle.owners.specs.declared.Owner.the-variants.{Processor, Coprocessor0, Coprocessor1, Coprocessor2, Coprocessor3}
 use Rattle.alu.specs.Modular.{bit}
 use Rattle.control.specs.declared.Pending.{Pending}
 use Rattle.control.specs.declared.System.{System}
@@ -21,13 +21,6 @@ usableOf Coprocessor0 s = cond (userOf s) (bitAt 28 (s .sr)) true
 usableOf Coprocessor1 s = bitAt 29 (s .sr)
 usableOf Coprocessor2 s = bitAt 30 (s .sr)
 usableOf Coprocessor3 s = bitAt 31 (s .sr)
-
-abbrev pub numberOf : Owner → ℕ
-numberOf Processor = 0
-numberOf Coprocessor0 = 0
-numberOf Coprocessor1 = 1
-numberOf Coprocessor2 = 2
-numberOf Coprocessor3 = 3
 
 -- ---- moves: 8, 12, 13 and 14 are read, others read 0; SR is written under its mask and CAUSE in bits 9..8
 unfoldable pub readSystemOf : ℕ → System → ℕ

@@ -1,8 +1,8 @@
 // The control state of the machine: PC, the load that waits, Cop0, HI and LO; and the moves of Cop0.
 ghost use mathlib.Core.Path.{_≡_};
-ghost use Rattle.control.specs.System.{userOf, usableOf, numberOf, readSystemOf, writeSystemOf, restoredOf};
-use decode::Owner;
+ghost use Rattle.control.specs.System.{userOf, usableOf, readSystemOf, writeSystemOf, restoredOf};
 use mul_div::HiLo;
+use owners::Owner;
 
 // PC, next PC, and 1 after a jump or branch (word 38).
 pub struct Flow {
@@ -52,18 +52,6 @@ pub fn usable(o: Owner, s: System) -> bool
         Owner::Coprocessor1 => s.sr / 0x2000_0000 % 2 == 1,
         Owner::Coprocessor2 => s.sr / 0x4000_0000 % 2 == 1,
         Owner::Coprocessor3 => s.sr / 0x8000_0000 % 2 == 1,
-    }
-}
-
-pub fn number(o: Owner) -> u32
-    ensures { λ r. ⌜ r ≡ numberOf o ⌝ }
-{
-    match o {
-        Owner::Processor => 0,
-        Owner::Coprocessor0 => 0,
-        Owner::Coprocessor1 => 1,
-        Owner::Coprocessor2 => 2,
-        Owner::Coprocessor3 => 3,
     }
 }
 

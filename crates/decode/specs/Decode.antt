@@ -7,8 +7,6 @@ use lib.Dec.{eqb}
 use Rattle.tables.specs.Table.{Row, _⇒_, lookup}
 use Rattle.decode.specs.declared.Op.{Op}
 use Rattle.decode.specs.declared.Op.the-variants.{Reserved, Sll, Srl, Sra, Sllv, Srlv, Srav, Jr, Jalr, Syscall, Break, Mfhi, Mthi, Mflo, Mtlo, Mult, Multu, Div, Divu, Add, Addu, Sub, Subu, And, Or, Xor, Nor, Slt, Sltu, Bltz, Bgez, Bltzal, Bgezal, J, Jal, Beq, Bne, Blez, Bgtz, Addi, Addiu, Slti, Sltiu, Andi, Ori, Xori, Lui, Lb, Lh, Lwl, Lw, Lbu, Lhu, Lwr, Sb, Sh, Swl, Sw, Swr, Mfc0, Mtc0, Rfe, Mfc2, Cfc2, Mtc2, Ctc2, Command, Lwc2, Swc2}
-use Rattle.decode.specs.declared.Owner.{Owner}
-use Rattle.decode.specs.declared.Owner.the-variants.{Processor, Coprocessor0, Coprocessor1, Coprocessor2, Coprocessor3}
 
 -- ---- the fields that choose
 abbrev pub opcode : ℕ → ℕ
@@ -67,12 +65,3 @@ decodeOf word =
     ((0x00 ⇒ lookup specials Reserved (funct word)) ∷ (0x01 ⇒ lookup conditions Reserved (rt word)) ∷ (0x10 ⇒ systemOf word) ∷ (0x12 ⇒ geometryOf word) ∷ primaries)
     Reserved
     (opcode word)
-
--- ---- whose instruction it is, by the top six bits; where that coprocessor is not usable, CpU comes before RI
-unfoldable pub owners : List (Row Owner)
-owners =
-    (0x10 ⇒ Coprocessor0) ∷ (0x11 ⇒ Coprocessor1) ∷ (0x12 ⇒ Coprocessor2) ∷ (0x13 ⇒ Coprocessor3) ∷ (0x31 ⇒ Coprocessor1)
-    ∷ (0x32 ⇒ Coprocessor2) ∷ (0x33 ⇒ Coprocessor3) ∷ (0x39 ⇒ Coprocessor1) ∷ (0x3a ⇒ Coprocessor2) ∷ (0x3b ⇒ Coprocessor3) ∷ []
-
-unfoldable pub ownerOf : ℕ → Owner
-ownerOf word = lookup owners Processor (opcode word)

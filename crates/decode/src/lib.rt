@@ -1,6 +1,6 @@
 // Which instruction a word encodes.
 ghost use mathlib.Core.Path.{_≡_};
-ghost use Rattle.decode.specs.Decode.{specials, conditions, moves0, moves2, systemOf, geometryOf, decodeOf, ownerOf};
+ghost use Rattle.decode.specs.Decode.{specials, conditions, moves0, moves2, systemOf, geometryOf, decodeOf};
 ghost use Rattle.tables.specs.Table.{lookup};
 ghost use Rattle.decode.specs.declared.Op.the-variants.{Reserved};
 
@@ -75,15 +75,6 @@ pub enum Op {
     Command,
     Lwc2,
     Swc2,
-}
-
-// Whose instruction it is.
-pub enum Owner {
-    Processor,
-    Coprocessor0,
-    Coprocessor1,
-    Coprocessor2,
-    Coprocessor3,
 }
 
 fn special(funct: u32) -> Op
@@ -217,28 +208,5 @@ pub fn decode(word: u32) -> Op
         0x32 => Op::Lwc2,
         0x3a => Op::Swc2,
         _ => Op::Reserved,
-    }
-}
-
-// Whose instruction it is, reserved or not.
-pub fn owner_of(word: u32) -> Owner
-    ensures { λ r. ⌜ r ≡ ownerOf word ⌝ }
-{
-    // Bit 30 is set in every coprocessor's word: most words need no more than this test.
-    if word / 0x4000_0000 % 2 == 0 {
-        return Owner::Processor;
-    }
-    match word / 0x400_0000 {
-        0x10 => Owner::Coprocessor0,
-        0x11 => Owner::Coprocessor1,
-        0x12 => Owner::Coprocessor2,
-        0x13 => Owner::Coprocessor3,
-        0x31 => Owner::Coprocessor1,
-        0x32 => Owner::Coprocessor2,
-        0x33 => Owner::Coprocessor3,
-        0x39 => Owner::Coprocessor1,
-        0x3a => Owner::Coprocessor2,
-        0x3b => Owner::Coprocessor3,
-        _ => Owner::Processor,
     }
 }

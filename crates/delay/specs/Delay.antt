@@ -1,21 +1,11 @@
--- PC, next PC and the load that waits (01 "One step").
+-- The load that waits (01 "One step").
 use mathlib.Core.Bool.{cond}
 use mathlib.Core.List.{List}
 use Prim.Native.Nat.{ℕ, _%_}
 use lib.Dec.{eqb}
 use lib.ListN.{getD, set}
-use Rattle.alu.specs.Modular.{add}
 use Rattle.control.specs.System.{none}
-use Rattle.control.specs.declared.Flow.{Flow}
 use Rattle.control.specs.declared.Pending.{Pending}
-use Rattle.control.specs.declared.Control.{Control}
-
--- ---- PC takes next PC; next PC takes itself plus 4, or the target
-abbrev pub onward : Flow → Flow
-onward f = record { pc = f .next; next = add (f .next) 4; slot = 0 }
-
-abbrev pub jumped : Flow → ℕ → Flow
-jumped f target = record { pc = f .next; next = target; slot = 1 }
 
 -- ---- the load that waits lands at the end of the instruction after it, unless that one loads the register too
 abbrev pub landed : Pending → List ℕ → List ℕ
@@ -35,7 +25,3 @@ pendingOf n v = cond (eqb (n % 32) 0) none (record { register = n % 32; value = 
 -- what LWL and LWR merge with: the value that waits for the register, or the register
 unfoldable pub currentOf : Pending → List ℕ → ℕ → ℕ
 currentOf p r n = cond (eqb (p .register % 32) (n % 32)) (p .value) (getD r (n % 32) 0)
-
--- a control state with another PC and another load that waits
-abbrev pub with : Flow → Pending → Control → Control
-with f p c = record { flow = f; pending = p; system = c .system; product = c .product }

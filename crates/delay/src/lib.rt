@@ -1,31 +1,8 @@
-// PC and next PC, and the load that waits.
+// The load that waits.
 ghost use mathlib.Core.Path.{_≡_};
 ghost use Rattle.control.specs.System.{none};
-ghost use Rattle.delay.specs.Delay.{onward, jumped, landed, landedUnless, withRegister, pendingOf, currentOf, with};
-use control::Control;
-use control::Flow;
+ghost use Rattle.delay.specs.Delay.{landed, landedUnless, withRegister, pendingOf, currentOf};
 use control::Pending;
-use std::num::wrapping_add_u32;
-
-pub fn next(f: Flow) -> Flow
-    ensures { λ r. ⌜ r ≡ onward f ⌝ }
-{
-    Flow {
-        pc: f.next,
-        next: wrapping_add_u32(f.next, 4),
-        slot: 0,
-    }
-}
-
-pub fn jump(f: Flow, target: u32) -> Flow
-    ensures { λ r. ⌜ r ≡ jumped f target ⌝ }
-{
-    Flow {
-        pc: f.next,
-        next: target,
-        slot: 1,
-    }
-}
 
 // Nothing waits.
 pub fn nothing() -> Pending
@@ -34,19 +11,6 @@ pub fn nothing() -> Pending
     Pending {
         register: 0,
         value: 0,
-    }
-}
-
-pub fn with_flow(c: Control, f: Flow, p: Pending) -> Control
-    ensures { λ r. ⌜ r ≡ with f p c ⌝ }
-{
-    let s = c.system;
-    let h = c.product;
-    Control {
-        flow: f,
-        pending: p,
-        system: s,
-        product: h,
     }
 }
 

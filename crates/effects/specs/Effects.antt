@@ -1,10 +1,11 @@
--- What the effects that stay inside the processor do to the machine (01 "One step").
+-- What the other effects that stay inside the processor do to the machine (01 "One step").
 use Prim.Native.Nat.{ℕ}
 use Rattle.mul_div.specs.declared.HiLo.{HiLo}
 use Rattle.control.specs.System.{none}
 use Rattle.control.specs.declared.System.{System}
 use Rattle.delay.specs.State.{State, state}
-use Rattle.delay.specs.Delay.{onward, jumped, landed, landedUnless, withRegister, pendingOf, with}
+use Rattle.delay.specs.Delay.{landed, landedUnless, withRegister, pendingOf}
+use Rattle.flow.specs.Flow.{onward, with}
 
 unfoldable pub nextStep : State → State
 nextStep s =
@@ -14,15 +15,6 @@ unfoldable pub writeStep : ℕ → ℕ → State → State
 writeStep n v s =
     state (with (onward (s .control .flow)) none (s .control)) (withRegister (landed (s .control .pending) (s .registers)) n v) (s .geometry)
     (s .ram)
-
-unfoldable pub jumpStep : ℕ → State → State
-jumpStep t s =
-    state (with (jumped (s .control .flow) t) none (s .control)) (landed (s .control .pending) (s .registers)) (s .geometry) (s .ram)
-
-unfoldable pub linkStep : ℕ → ℕ → ℕ → State → State
-linkStep n link t s =
-    state (with (jumped (s .control .flow) t) none (s .control)) (withRegister (landed (s .control .pending) (s .registers)) n link)
-    (s .geometry) (s .ram)
 
 unfoldable pub productStep : HiLo → State → State
 productStep h s =

@@ -1,19 +1,18 @@
-// What the effects that stay inside the processor do to the control state and the 32 registers that the caller lends.
+// What the effects that stay inside the processor, but for jumps, do to the control state and the 32 registers that the caller lends.
 ghost use mathlib.Core.List.{List};
 ghost use mathlib.Core.Path.{_≡_};
 ghost use Prim.Native.Nat.{ℕ};
 ghost use Rattle.delay.specs.State.{state};
-ghost use Rattle.effects.specs.Effects.{nextStep, writeStep, jumpStep, linkStep, productStep, systemStep, waitStep};
+ghost use Rattle.effects.specs.Effects.{nextStep, writeStep, productStep, systemStep, waitStep};
 use control::Control;
 use control::System;
-use delay::jump;
 use delay::land;
 use delay::land_unless;
-use delay::next;
 use delay::nothing;
 use delay::to_wait;
-use delay::with_flow;
 use delay::write_register;
+use flow::next;
+use flow::with_flow;
 use mul_div::HiLo;
 
 pub fn do_next(c: Control, r: &mut [u32; 32]) -> Control
@@ -33,25 +32,6 @@ pub fn do_write(c: Control, r: &mut [u32; 32], n: usize, v: u32) -> Control
     land(p, r);
     write_register(r, n, v);
     with_flow(c, next(f), nothing())
-}
-
-pub fn do_jump(c: Control, r: &mut [u32; 32], target: u32) -> Control
-    ensures { λ d. ⌜ ((g m : List ℕ) → state d (now (r .exit)) g m ≡ jumpStep target (state c (now (r .entry)) g m)) ⌝ }
-{
-    let f = c.flow;
-    let p = c.pending;
-    land(p, r);
-    with_flow(c, jump(f, target), nothing())
-}
-
-pub fn do_link(c: Control, r: &mut [u32; 32], n: usize, link: u32, target: u32) -> Control
-    ensures { λ d. ⌜ ((g m : List ℕ) → state d (now (r .exit)) g m ≡ linkStep n link target (state c (now (r .entry)) g m)) ⌝ }
-{
-    let f = c.flow;
-    let p = c.pending;
-    land(p, r);
-    write_register(r, n, link);
-    with_flow(c, jump(f, target), nothing())
 }
 
 pub fn do_product(c: Control, r: &mut [u32; 32], h: HiLo) -> Control

@@ -4,7 +4,7 @@ use mathlib.Core.List.{List}
 use mathlib.Core.Path.{_≡_}
 use Rattle.image.specs.Image.{machineOf}
 use Rattle.run.proofs.Same.{search-run}
-use Rattle.image_run.specs.Find.{findOf}
+use Rattle.fliskadee.specs.Find.{findOf}
 use Rattle.fliskadee.specs.Answer.{answerOf}
 
 -- ---- with mask 0 no bit ends the run

@@ -6,7 +6,7 @@ use lib.ListN.{length}
 use Rattle.image.specs.Image.{machineOf, imageOf}
 use Rattle.run.specs.Run.{Run, runOf}
 use Rattle.admission.specs.Refusals.{refusalOf}
-use Rattle.image_run.specs.Find.{Answer, answer, packed, unlessRefused}
+use Rattle.fliskadee.specs.Find.{Answer, answer, packed, unlessRefused}
 
 -- ---- the run
 

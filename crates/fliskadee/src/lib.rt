@@ -3,11 +3,30 @@ ghost use mathlib.Core.Path.{_≡_};
 ghost use Prim.Native.Nat.{_+_, _*_, _^_};
 ghost use lib.ListN.{length};
 ghost use Rattle.window.specs.Window.{windowAt, windowLength};
-ghost use Rattle.image_run.specs.Find.{answer, findOf};
+ghost use Rattle.fliskadee.specs.Find.{answer, findOf};
 ghost use Rattle.fliskadee.specs.Answer.{answerOf};
 use addresses::Virt;
-use image_run::run_with;
+use admission::admit;
+use image::write_image;
+use run::run_until;
 use window::part_of;
+
+// The run of the machine that an image and RAM describe, ended by a bit of the mask.
+fn run_with(image: &mut [u8], ram: &mut [u8], count: u64, mask: u32) -> u64
+    ensures { λ n. ⌜ answer n (now (image .exit)) (now (ram .exit)) ≡ findOf (now (image .entry)) (now (ram .entry)) count mask ⌝ }
+{
+    let a = admit(image, ram.len(), count);
+    if a.code != 0 {
+        return a.code * 0x10_0000;
+    }
+    let first = a.control;
+    let mut r = a.registers;
+    let mut g = a.geometry;
+    let d = run_until(first, &mut r, &mut g, ram, count, mask);
+    let last = d.control;
+    write_image(image, last, &r, &g);
+    d.code * 0x10_0000 + d.steps
+}
 
 // At most count steps of the machine that an image and RAM describe.
 #[no_mangle]

@@ -1,31 +1,21 @@
--- The flags of the lines of a colour command: the lines that checks name do not matter to them.
+-- The flags of the end of a colour command: the lines that checks name do not matter to them.
 use mathlib.Core.Path.{_≡_, refl, ap, _∙_}
 use mathlib.Core.Bool.{Bool, false}
-use mathlib.Core.List.{List, _++_}
+use mathlib.Core.List.{List}
 use Prim.Native.Nat.{ℕ}
 use lib.ListN.{getD}
-use Rattle.gte_arithmetic.specs.Checks.{or, Check, flags}
-use Rattle.gte_line.specs.Line.{lineChecks, lineChecksAt}
+use Rattle.gte_arithmetic.specs.Checks.{or, flags}
+use Rattle.gte_line.specs.Line.{lineChecks}
 use Rattle.gte_values.specs.declared.Wide.{Wide}
-use Rattle.gte_arithmetic.proofs.Flags.{flags-++}
 use Rattle.gte_colour.specs.Shade.{farther, blendOf, shadeChecks}
 use Rattle.gte_values.specs.declared.Shade.{Shade}
 use Rattle.gte_inputs.specs.Inputs.{Inputs, inputsOf}
+use Rattle.gte_lights.proofs.Lines.{after-line}
 use Rattle.gte_cueing.specs.Cueing.{cuedChecks}
-
--- ---- the lines do not matter
-pub line-flags : (n : ℕ) (sf lm : Bool) (s : Wide) → flags (lineChecks n sf lm s) ≡ flags (lineChecks 0 sf lm s)
-unfolding flags lineChecksAt
-line-flags n sf lm s = refl
 
 pub shade-flags : (n m : ℕ) (sf lm : Bool) (s : Wide) → flags (shadeChecks n m sf lm s) ≡ flags (shadeChecks 0 0 sf lm s)
 unfolding flags shadeChecks
 shade-flags n m sf lm s = refl
-
--- ---- one line, and what follows
-pub after-line : (n : ℕ) (sf lm : Bool) (s : Wide) (rest : List Check)
-    → flags (lineChecks n sf lm s ++ rest) ≡ or (flags (lineChecks 0 sf lm s)) (flags rest)
-after-line n sf lm s rest = flags-++ (lineChecks n sf lm s) rest ∙ ap (λ (x : ℕ). or x (flags rest)) (line-flags n sf lm s)
 
 -- the difference from the far colour, then the end
 pub cued-flags : (l n m : ℕ) (sf lm : Bool) (i : Inputs) (s : Wide)

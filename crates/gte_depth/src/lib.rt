@@ -6,6 +6,7 @@ ghost use Rattle.integers.specs.Wrap.{wrap};
 ghost use Rattle.gte_arithmetic.specs.Values.{mac0Flag};
 ghost use Rattle.gte_depth.specs.Depth.{windingOf, averageOf};
 use gte_arithmetic::limit_depth;
+use gte_products::times;
 use gte_store::Stored;
 use gte_store::store_mac0;
 use gte_values::Average;
@@ -16,10 +17,7 @@ use shifts::shift_12;
 fn add_products(x0: i16, y0: i16, x1: i16, y1: i16, x2: i16, y2: i16) -> i64
     ensures { λ r. ⌜ r ≡ x0 *ℤ y1 +ℤ x1 *ℤ y2 +ℤ x2 *ℤ y0 -ℤ x0 *ℤ y2 -ℤ x1 *ℤ y0 -ℤ x2 *ℤ y1 ⌝ }
 {
-    (x0 as i64) * (y1 as i64) + (x1 as i64) * (y2 as i64) + (x2 as i64) * (y0 as i64)
-        - (x0 as i64) * (y2 as i64)
-        - (x1 as i64) * (y0 as i64)
-        - (x2 as i64) * (y1 as i64)
+    times(x0, y1) + times(x1, y2) + times(x2, y0) - times(x0, y2) - times(x1, y0) - times(x2, y1)
 }
 
 // NCLIP.

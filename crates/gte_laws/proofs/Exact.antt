@@ -20,11 +20,17 @@ use Rattle.gte_values.specs.declared.Shade.{Shade}
 use Rattle.gte_registers.specs.Registers.{reg, kinds, readOf, reads, pushedXY}
 use Rattle.gte_registers.proofs.Views.{spelt}
 use Rattle.gte_inputs.specs.Inputs.{Inputs, inputsOf}
-use Rattle.gte_effects.specs.Effects.{stored, flagged, pushedColour, lineLeft, shadeLeft, shadesLeft}
-use Rattle.gte_vertex_effects.specs.VertexEffects.{pushedZ, pushedVertex, vertexKept, vertexLeft, verticesLeft, windingLeft, averageLeft}
-use Rattle.gte_normals.specs.Normals.{ncsOf, ncsChecks, nccsOf, nccsChecks, ncdsOf, ncdsChecks}
-use Rattle.gte_shading.specs.Shading.{ccOf, cdpOf, gpfOf, gplOf}
-use Rattle.gte_cueing.specs.Cueing.{depthCued, depthCuedChecks, dpctFrom, dpctOf}
+use Rattle.gte_effects.specs.Effects.{stored, flagged, lineLeft}
+use Rattle.gte_shade_effects.specs.ShadeEffects.{pushedColour, shadeLeft, shadesLeft}
+use Rattle.gte_vertex_effects.specs.VertexEffects.{pushedZ, pushedVertex, vertexKept, vertexLeft, verticesLeft}
+use Rattle.gte_average_effects.specs.AverageEffects.{windingLeft, averageLeft}
+use Rattle.gte_normals.specs.Normals.{ncsOf, ncsChecks}
+use Rattle.gte_normal_cueing.specs.NormalCueing.{ncdsOf, ncdsChecks}
+use Rattle.gte_normal_colours.specs.NormalColours.{nccsOf, nccsChecks}
+use Rattle.gte_shading.specs.Shading.{ccOf, cdpOf}
+use Rattle.gte_interpolation.specs.Interpolation.{gpfOf, gplOf}
+use Rattle.gte_cueing.specs.Cueing.{depthCued, depthCuedChecks}
+use Rattle.gte_depth_cueing.specs.DepthCueing.{dpctFrom, dpctOf}
 use Rattle.gte_mvmva.specs.Multiply.{farOf, multipliedOf, mvmvaOf}
 use Rattle.gte_sqr_op.specs.SqrOp.{squareOf, outerOf}
 use Rattle.gte.specs.Commands.{Command, RTPS, NCLIP, OP, DPCS, INTPL, MVMVA, NCDS, CDP, NCDT, NCCS, CC, NCS, NCT, SQR, DCPL, DPCT, AVSZ3, AVSZ4, RTPT, GPF, GPL, NCCT, unlisted, commandIn, sfOf, lmOf, cvOf, leaves, checksOf, listed, outcomeOf, commandOf}

@@ -1,1 +1,1 @@
-mod Normal
+mod Twice

@@ -30,6 +30,10 @@ pub at-key : (s : List ℕ) (i k : ℕ) {r : ℕ} → i % 64 ≡ k → r ≡ rea
 unfolding view
 at-key s i k e h = h ∙ ap (readOf s) (sym e) ∙ sym (read-at s (i % 64) (omega arith))
 
+-- a read of a register whose word is read before its number is looked at
+pub at-word : (s : List ℕ) (i k : ℕ) (f : ℕ → ℕ) {r : ℕ} → i % 64 ≡ k → r ≡ f (reg s (i % 64)) → f (reg s k) ≡ readOf s k → r ≡ reg (view s) (i % 64)
+at-word s i k f e h g = at-key s i k e (h ∙ ap (λ (x : ℕ). f (reg s x)) e ∙ g)
+
 -- a read of a register that is not in the table
 pub at-rest : (s : List ℕ) (i : ℕ) → NoneOf kinds (i % 64) Unit → reg s (i % 64) ≡ reg (view s) (i % 64)
 unfolding view readOf

@@ -1,16 +1,16 @@
--- CC, CDP, GPF and GPL: the values of each and the checks that it makes, from what it reads (001's formulas as fixed in 01).
--- Line numbers are those of 001's formula of the command.
+-- CC and CDP: the values of each and the checks that it makes, from what it reads (001's formulas as fixed in 01). Line numbers
+-- are those of 001's formula of the command.
 use mathlib.Core.Bool.{Bool}
 use mathlib.Core.List.{List, _++_}
 use Rattle.gte_arithmetic.specs.Checks.{Check}
 use Rattle.gte_line.specs.Line.{lineChecks}
 use Rattle.gte_values.specs.declared.Wide.{Wide}
 use Rattle.gte_tones.specs.Tones.{tonesOf}
-use Rattle.gte_products.specs.Products.{scaledOf, scaledFrom}
 use Rattle.gte_colour.specs.Shade.{shadeChecks}
 use Rattle.gte_values.specs.declared.Shade.{Shade}
 use Rattle.gte_inputs.specs.Inputs.{Inputs}
-use Rattle.gte_cueing.specs.Cueing.{shadeWith, plainEnd, cuedChecks, cuedEnd, backSums, backIr}
+use Rattle.gte_cueing.specs.Cueing.{shadeWith, plainEnd, cuedChecks, cuedEnd}
+use Rattle.gte_lights.specs.Lights.{backSums, backIr}
 
 -- CC and CDP start from IR as it stands
 abbrev pub irTones : Bool → Bool → Inputs → Wide
@@ -27,16 +27,3 @@ cdpChecks sf lm i = lineChecks 1 sf lm (backSums i (i .ir)) ++ cuedChecks 3 4 5 
 
 unfoldable pub cdpOf : Bool → Bool → Inputs → Shade
 cdpOf sf lm i = shadeWith (cdpChecks sf lm i) (cuedEnd sf lm i (irTones sf lm i))
-
--- GPF and GPL: MAC on line 3, the FIFO and IR on line 4
-abbrev pub gpfFrom : Inputs → Wide
-gpfFrom i = scaledOf (i .ir) (i .ir0)
-
-abbrev pub gplFrom : Bool → Inputs → Wide
-gplFrom sf i = scaledFrom (i .ir) (i .ir0) (i .mac) sf
-
-unfoldable pub gpfOf : Bool → Bool → Inputs → Shade
-gpfOf sf lm i = shadeWith (shadeChecks 3 4 sf lm (gpfFrom i)) (plainEnd sf lm i (gpfFrom i))
-
-unfoldable pub gplOf : Bool → Bool → Inputs → Shade
-gplOf sf lm i = shadeWith (shadeChecks 3 4 sf lm (gplFrom sf i)) (plainEnd sf lm i (gplFrom sf i))

@@ -2,14 +2,12 @@
 use mathlib.Core.Path.{_≡_, ap, _∙_}
 use mathlib.Core.List.{List}
 use Prim.Native.Nat.{ℕ}
-use lib.IntN.{ℤ}
 use lib.ListN.{length}
 use Rattle.gte_values.specs.declared.Vertex.{Vertex}
-use Rattle.gte_values.specs.declared.Average.{Average}
 use Rattle.gte_registers.specs.Registers.{kinds, readOf, reads, view, pushedXY}
-use Rattle.gte_registers.proofs.Views.{short-short, half-half, fields-short, from, spelt}
+use Rattle.gte_registers.proofs.Views.{short-short, half-half, from, spelt}
 use Rattle.gte_effects.specs.Effects.{stored, flagged}
-use Rattle.gte_vertex_effects.specs.VertexEffects.{pushedZ, pushedVertex, vertexKept, vertexLeft, verticesLeft, windingLeft, averageLeft}
+use Rattle.gte_vertex_effects.specs.VertexEffects.{pushedZ, pushedVertex, vertexKept, vertexLeft, verticesLeft}
 
 vertex-seen : (x : Vertex) (s : List ℕ) → reads (vertexLeft x (from 64 0 s)) ≡ reads (vertexLeft x (reads s))
 unfolding reads readOf kinds vertexLeft vertexKept pushedVertex stored flagged pushedZ pushedXY
@@ -26,19 +24,3 @@ vertices-seen x y z s = simp (short-short, half-half)
 pub vertices-view : (x y z : Vertex) (s : List ℕ) → length s ≡ 64 → view (verticesLeft x y z s) ≡ reads (verticesLeft x y z (view s))
 unfolding view
 vertices-view x y z s h = ap (λ (t : List ℕ). reads (verticesLeft x y z t)) (spelt s h) ∙ vertices-seen x y z s
-
-winding-seen : (x : ℤ) (s : List ℕ) → reads (windingLeft x (from 64 0 s)) ≡ reads (windingLeft x (reads s))
-unfolding reads readOf kinds windingLeft flagged
-winding-seen x s = simp (short-short, half-half, fields-short)
-
-pub winding-view : (x : ℤ) (s : List ℕ) → length s ≡ 64 → view (windingLeft x s) ≡ reads (windingLeft x (view s))
-unfolding view
-winding-view x s h = ap (λ (t : List ℕ). reads (windingLeft x t)) (spelt s h) ∙ winding-seen x s
-
-average-seen : (x : Average) (s : List ℕ) → reads (averageLeft x (from 64 0 s)) ≡ reads (averageLeft x (reads s))
-unfolding reads readOf kinds averageLeft flagged
-average-seen x s = simp (short-short, half-half, fields-short)
-
-pub average-view : (x : Average) (s : List ℕ) → length s ≡ 64 → view (averageLeft x s) ≡ reads (averageLeft x (view s))
-unfolding view
-average-view x s h = ap (λ (t : List ℕ). reads (averageLeft x t)) (spelt s h) ∙ average-seen x s

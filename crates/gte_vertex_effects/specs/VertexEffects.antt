@@ -1,15 +1,11 @@
--- What RTPS, RTPT, NCLIP, AVSZ3 and AVSZ4 write, and nothing else.
-use mathlib.Core.List.{List, []}
-use Prim.Native.Nat.{ℕ, _^_}
-use lib.IntN.{ℤ}
+-- What RTPS and RTPT write, and nothing else.
+use mathlib.Core.List.{List}
+use Prim.Native.Nat.{ℕ}
 use lib.ListN.{set}
 use mir.Syntax.{w32}
 use mir.Val.{ofZ}
-use Rattle.integers.specs.Wrap.{wrap}
-use Rattle.gte_arithmetic.specs.Checks.{flags, or}
-use Rattle.gte_arithmetic.specs.Values.{mac0Checks}
+use Rattle.gte_arithmetic.specs.Checks.{or}
 use Rattle.gte_values.specs.declared.Vertex.{Vertex}
-use Rattle.gte_values.specs.declared.Average.{Average}
 use Rattle.gte_registers.specs.Registers.{reg, pushedXY}
 use Rattle.gte_effects.specs.Effects.{stored, flagged}
 
@@ -29,10 +25,3 @@ vertexLeft v w = vertexKept v (v .flag) (pushedVertex v w)
 
 unfoldable pub verticesLeft : Vertex → Vertex → Vertex → List ℕ → List ℕ
 verticesLeft a b c w = vertexKept c (or (a .flag) (or (b .flag) (c .flag))) (pushedVertex c (pushedVertex b (pushedVertex a w)))
-
--- NCLIP, and AVSZ3 and AVSZ4
-unfoldable pub windingLeft : ℤ → List ℕ → List ℕ
-windingLeft x w = flagged (flags (mac0Checks 1 x [])) (set w 24 (ofZ w32 (wrap (2 ^ 31) x)))
-
-unfoldable pub averageLeft : Average → List ℕ → List ℕ
-averageLeft a w = flagged (a .flag) (set (set w 24 (ofZ w32 (a .mac0))) 7 (a .otz))

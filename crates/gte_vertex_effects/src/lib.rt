@@ -1,10 +1,9 @@
-// What RTPS, RTPT, AVSZ3 and AVSZ4 write to the 64 words.
+// What RTPS and RTPT write to the 64 words.
 ghost use mathlib.Core.Path.{_≡_};
 ghost use Rattle.gte_registers.specs.Registers.{view, reads};
-ghost use Rattle.gte_vertex_effects.specs.VertexEffects.{pushedZ, pushedVertex, vertexKept, vertexLeft, verticesLeft, averageLeft};
+ghost use Rattle.gte_vertex_effects.specs.VertexEffects.{pushedZ, pushedVertex, vertexKept, vertexLeft, verticesLeft};
 use gte_effects::store;
 use gte_registers::sized;
-use gte_values::Average;
 use gte_values::Vertex;
 use gte_writes::push_xy;
 use words::to_bits;
@@ -57,13 +56,4 @@ pub fn leave_vertices(c: &mut [u32; 64], p: Vertex, q: Vertex, r: Vertex)
     push_vertex(c, q);
     push_vertex(c, r);
     keep_vertex(c, r, p.flag | (q.flag | r.flag));
-}
-
-pub fn leave_average(c: &mut [u32; 64], a: Average)
-    ensures { λ _. ⌜ view (now (c .exit)) ≡ reads (averageLeft a (view (now (c .entry)))) ⌝ }
-{
-    sized(c);
-    c[24] = to_bits(a.mac0);
-    c[7] = a.otz;
-    c[63] = a.flag;
 }

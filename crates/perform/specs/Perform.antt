@@ -20,7 +20,8 @@ use Rattle.gte_registers.specs.Registers.{reg, writeOf}
 use Rattle.control.specs.System.{userOf, readSystemOf, writeSystemOf, restoredOf}
 use Rattle.delay.specs.State.{State, state}
 use Rattle.delay.specs.Delay.{currentOf}
-use Rattle.effects.specs.Effects.{nextStep, writeStep, jumpStep, linkStep, productStep, systemStep, waitStep}
+use Rattle.effects.specs.Effects.{nextStep, writeStep, productStep, systemStep, waitStep}
+use Rattle.jumps.specs.Jumps.{jumpStep, linkStep}
 use Rattle.traps.specs.Traps.{trapStep, faultStep}
 
 -- ---- what the effects that reach memory or COP2 do

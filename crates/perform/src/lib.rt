@@ -15,8 +15,6 @@ use control::restored;
 use control::user;
 use control::write_system;
 use delay::current;
-use effects::do_jump;
-use effects::do_link;
 use effects::do_next;
 use effects::do_product;
 use effects::do_system;
@@ -25,6 +23,8 @@ use effects::do_write;
 use gte_registers::read;
 use gte_writes::write;
 use isa::Effect;
+use jumps::do_jump;
+use jumps::do_link;
 use loads::LoadKind;
 use loads::Loaded;
 use loads::load;
@@ -38,9 +38,7 @@ fn do_load(c: Control, r: &mut [u32; 32], ram: &[u8], k: LoadKind, n: usize, v: 
     requires { ⌜ RamOk (now ram) ⌝ }
     ensures { λ d. ⌜ ((g : List ℕ) → state d (now (r .exit)) g (now (ram .entry)) ≡ loadStep k n (v .0) (state c (now (r .entry)) g (now (ram .entry)))) ⌝ }
 {
-    let p = c.pending;
-    let s = c.system;
-    match load(k, ram, v, user(s), current(p, r, n)) {
+    match load(k, ram, v, user(c.system), current(c.pending, r, n)) {
         Loaded::Value(x) => do_wait(c, r, n, x),
         Loaded::Bus => trap(c, r, 7, 0),
         Loaded::Address => fault(c, r, 4, v.0),
@@ -51,8 +49,7 @@ fn do_store(c: Control, r: &mut [u32; 32], ram: &mut [u8], k: StoreKind, x: u32,
     requires { ⌜ RamOk (now ram) ⌝ }
     ensures { λ d. ⌜ ((g : List ℕ) → state d (now (r .exit)) g (now (ram .exit)) ≡ storeStep k x (v .0) (state c (now (r .entry)) g (now (ram .entry)))) ⌝ }
 {
-    let s = c.system;
-    match store(k, ram, v, user(s), x) {
+    match store(k, ram, v, user(c.system), x) {
         Stored::Done => do_next(c, r),
         Stored::Bus => trap(c, r, 7, 0),
         Stored::Address => fault(c, r, 5, v.0),
@@ -78,8 +75,7 @@ fn do_load_geometry(
     requires { ⌜ RamOk (now ram) ⌝ }
     ensures { λ d. ⌜ state d (now (r .exit)) (view (now (g .exit))) (now (ram .entry)) ≡ loadGeometryStep n (v .0) (state c (now (r .entry)) (view (now (g .entry))) (now (ram .entry))) ⌝ }
 {
-    let s = c.system;
-    match load(LoadKind::Word, ram, v, user(s), 0) {
+    match load(LoadKind::Word, ram, v, user(c.system), 0) {
         Loaded::Value(x) => do_write_geometry(c, r, g, n, x),
         Loaded::Bus => trap(c, r, 7, 0),
         Loaded::Address => fault(c, r, 4, v.0),
@@ -97,7 +93,6 @@ pub fn perform(
     requires { ⌜ RamOk (now ram) ⌝ }
     ensures { λ d. ⌜ tick false (state d (now (r .exit)) (view (now (g .exit))) (now (ram .exit))) ≡ performOf passedOver e (state c (now (r .entry)) (view (now (g .entry))) (now (ram .entry))) ⌝ }
 {
-    let s = c.system;
     match e {
         Effect::Write(n, v) => do_write(c, r, n, v),
         Effect::Jump(t) => do_jump(c, r, t),
@@ -106,9 +101,9 @@ pub fn perform(
         Effect::Load(k, n, v) => do_load(c, r, ram, k, n, v),
         Effect::Store(k, x, v) => do_store(c, r, ram, k, x, v),
         Effect::Trap(code) => trap(c, r, code, 0),
-        Effect::ReadSystem(n, k) => do_wait(c, r, n, read_system(k, s)),
-        Effect::WriteSystem(k, v) => do_system(c, r, write_system(k, v, s)),
-        Effect::Restore => do_system(c, r, restored(s)),
+        Effect::ReadSystem(n, k) => do_wait(c, r, n, read_system(k, c.system)),
+        Effect::WriteSystem(k, v) => do_system(c, r, write_system(k, v, c.system)),
+        Effect::Restore => do_system(c, r, restored(c.system)),
         Effect::ReadGeometry(n, k) => do_wait(c, r, n, read(g, k)),
         Effect::WriteGeometry(k, v) => do_write_geometry(c, r, g, k, v),
         Effect::Command(word) => c,

@@ -5,13 +5,14 @@ use lib.ListN.{getD}
 use Rattle.loads.specs.declared.LoadKind.the-variants as K
 use Rattle.loads.specs.declared.Loaded.{Loaded}
 use Rattle.loads.specs.declared.Loaded.the-variants as L
-use Rattle.decode.specs.Decode.{decodeOf, ownerOf, rs, rt}
+use Rattle.decode.specs.Decode.{decodeOf, rs, rt}
+use Rattle.owners.specs.Owners.{ownerOf, numberOf}
 use Rattle.fields.specs.Fields.{fieldsOf}
 use Rattle.isa.specs.Execute.{executeOf}
 use Rattle.gte.specs.Commands.{outcomeOf, commandOf}
 use Rattle.gte.specs.declared.Outcome.{Outcome}
 use Rattle.gte.specs.declared.Outcome.the-variants as O
-use Rattle.control.specs.System.{usableOf, numberOf}
+use Rattle.control.specs.System.{usableOf}
 use Rattle.delay.specs.State.{State}
 use Rattle.traps.specs.Traps.{trapStep, faultStep}
 use Rattle.perform.specs.Perform.{geometryStep, loaded, Tick, tick, performOf}

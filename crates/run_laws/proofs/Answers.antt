@@ -12,7 +12,7 @@ use Rattle.addresses.specs.Addresses.{ramLength}
 use Rattle.formed.specs.Formed.{wellFormed}
 use Rattle.image.specs.Image.{machineOf, imageOf}
 use Rattle.run.specs.Run.{Run, ran, runOf}
-use Rattle.image_run.specs.Find.{Answer, answer, packed, unlessRefused}
+use Rattle.fliskadee.specs.Find.{Answer, answer, packed, unlessRefused}
 use Rattle.fliskadee.specs.Answer.{codeOf, finished, answerOf}
 use Rattle.admission.specs.Refusals.{mostSteps, afterFormed, refusalOf}
 use Rattle.step_laws.specs.Formed.{StateFormed}

@@ -7,7 +7,8 @@ use mathlib.Core.Path.{_≡_, refl, sym, ap, _∙_}
 use lib.Dec.{leb}
 use lib.ListN.{length}
 use borrow.Author.Tests.{leb-true}
-use Rattle.decode.specs.Decode.{decodeOf, ownerOf}
+use Rattle.decode.specs.Decode.{decodeOf}
+use Rattle.owners.specs.Owners.{ownerOf}
 use Rattle.decode.specs.declared.Op.{Op}
 use Rattle.decode.specs.declared.Op.the-variants as D
 use Rattle.fields.specs.Fields.{fieldsOf}
@@ -27,7 +28,7 @@ use Rattle.gte_laws.proofs.Demand.{demand-3}
 use Rattle.image.specs.Image.{geometryIn, machineOf, imageOf}
 use Rattle.run.specs.Run.{Run, ran, further, onwards, runOf}
 use Rattle.run.proofs.Steps.{stays}
-use Rattle.image_run.specs.Find.{Answer, packed}
+use Rattle.fliskadee.specs.Find.{Answer, packed}
 use Rattle.fliskadee.specs.Answer.{codeOf, finished, answerOf}
 use Rattle.admission.specs.Refusals.{mostSteps}
 use Rattle.step_laws.specs.Formed.{StateFormed}

@@ -3,7 +3,8 @@ use mathlib.Core.Bool.{true, false}
 use mathlib.Core.List.{List}
 use mathlib.Core.Path.{_≡_}
 use Prim.Native.Nat.{ℕ, suc, _≤_}
-use Rattle.decode.specs.Decode.{decodeOf, ownerOf}
+use Rattle.decode.specs.Decode.{decodeOf}
+use Rattle.owners.specs.Owners.{ownerOf}
 use Rattle.decode.specs.declared.Op.the-variants.{Command}
 use Rattle.loads.specs.declared.LoadKind.the-variants.{Word}
 use Rattle.loads.specs.declared.Loaded.the-variants.{Value}

@@ -10,7 +10,7 @@ use Rattle.addresses.specs.Addresses.{ramLength}
 use Rattle.image.specs.Image.{imageLength}
 use Rattle.formed.specs.Formed.{wellFormed}
 use Rattle.run.specs.Run.{Run, ran, onwards, runOf}
-use Rattle.image_run.specs.Find.{Answer}
+use Rattle.fliskadee.specs.Find.{Answer}
 use Rattle.fliskadee.specs.Answer.{answerOf}
 use Rattle.admission.specs.Refusals.{mostSteps}
 

@@ -8,7 +8,8 @@ use Rattle.gte_arithmetic.specs.Checks.{or, flags, flagWord}
 use Rattle.gte_arithmetic.specs.Values.{macOf, irOf, depthOf, screenOf, factorOf, quotient, ratioOf}
 use Rattle.gte_sums.specs.Sums.{rowOf, productOf}
 use Rattle.gte_line.specs.Line.{lineChecksAt, lineOf}
-use Rattle.gte_projection.specs.Projection.{exactOf, farOf, pairOf, screenChecks, onScreen, vertexChecks, vertexOf}
+use Rattle.gte_projection.specs.Projection.{farOf, vertexChecks, vertexOf}
+use Rattle.gte_perspective.specs.Perspective.{exactOf, pairOf, screenChecks, onScreen}
 use Rattle.gte_depth.specs.Depth.{windingOf, averageChecks, averageOf}
 use Rattle.gte_products.specs.Products.{squaresOf}
 use Rattle.gte_registers.specs.Registers.{kinds, readOf, reads, short, half, field, fieldsOf, leadingFrom, leading, pushedXY, spreadFields, written, writeOf}
@@ -17,9 +18,11 @@ use Rattle.gte_vertices.specs.Vertices.{rotated}
 use Rattle.gte_sqr_op.specs.SqrOp.{squareOf}
 use Rattle.gte.specs.Commands.{commands, leaves, outcomeOf, commandOf}
 use Rattle.gte_effects.specs.Effects.{stored, flagged, lineLeft}
-use Rattle.gte_vertex_effects.specs.VertexEffects.{pushedZ, pushedVertex, vertexKept, vertexLeft, windingLeft, averageLeft}
+use Rattle.gte_vertex_effects.specs.VertexEffects.{pushedZ, pushedVertex, vertexKept, vertexLeft}
+use Rattle.gte_average_effects.specs.AverageEffects.{windingLeft, averageLeft}
 use Rattle.byte_order.specs.Bytes.{wordAt, bytesOf}
-use Rattle.decode.specs.Decode.{specials, primaries, decodeOf, owners, ownerOf}
+use Rattle.decode.specs.Decode.{specials, primaries, decodeOf}
+use Rattle.owners.specs.Owners.{owners, ownerOf}
 use Rattle.alu.specs.Alu.{sumOf}
 use Rattle.addresses.specs.Addresses.{mapped, segmentOf, placeOf}
 use Rattle.loads.specs.Loads as M

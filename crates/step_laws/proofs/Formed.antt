@@ -21,7 +21,8 @@ use Rattle.stores.specs.declared.Stored.{Stored}
 use Rattle.stores.specs.declared.Stored.the-variants as S
 use Rattle.stores.specs.declared.StoreKind.{StoreKind}
 use Rattle.stores.specs.declared.StoreKind.the-variants as W
-use Rattle.decode.specs.Decode.{decodeOf, ownerOf, rs, rt}
+use Rattle.decode.specs.Decode.{decodeOf, rs, rt}
+use Rattle.owners.specs.Owners.{numberOf, ownerOf}
 use Rattle.fields.specs.Fields.{fieldsOf}
 use Rattle.isa.specs.Execute.{executeOf}
 use Rattle.isa.specs.declared.Effect.{Effect}
@@ -31,14 +32,15 @@ use Rattle.gte.specs.Commands.{outcomeOf, commandOf}
 use Rattle.gte.specs.declared.Outcome.{Outcome}
 use Rattle.gte.specs.declared.Outcome.the-variants as O
 use Rattle.gte_laws.proofs.Formed.{write-formed, command-formed}
-use Rattle.control.specs.System.{userOf, usableOf, numberOf, readSystemOf, withSr, withCause, writeSystemOf, restoredOf, none}
+use Rattle.control.specs.System.{userOf, usableOf, readSystemOf, withSr, withCause, writeSystemOf, restoredOf, none}
 use Rattle.exceptions.specs.Exceptions.{inSlot, raisedSystem, raisedOf, withBadAddress}
 use Rattle.control.specs.declared.Flow.{Flow}
 use Rattle.control.specs.declared.Pending.{Pending}
 use Rattle.control.specs.declared.System.{System}
 use Rattle.delay.specs.State.{State, state}
 use Rattle.delay.specs.Delay.{landed, landedUnless, withRegister, pendingOf, currentOf}
-use Rattle.effects.specs.Effects.{nextStep, writeStep, jumpStep, linkStep, productStep, systemStep, waitStep}
+use Rattle.effects.specs.Effects.{nextStep, writeStep, productStep, systemStep, waitStep}
+use Rattle.jumps.specs.Jumps.{jumpStep, linkStep}
 use Rattle.traps.specs.Traps.{trapStep, faultStep}
 use Rattle.perform.specs.Perform.{Tick, tick, geometryStep, loaded, afterLoad, loadStep, loadGeometryStep, afterStore, storeStep, performOf}
 use Rattle.processor.specs.Step.{afterCommand, commandStep, issueOf, afterFetch, stepOf}

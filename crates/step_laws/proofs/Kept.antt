@@ -20,17 +20,18 @@ use Rattle.stores.specs.declared.Stored.{Stored}
 use Rattle.stores.specs.declared.Stored.the-variants as S
 use Rattle.stores.specs.declared.StoreKind.{StoreKind}
 use Rattle.stores.specs.declared.StoreKind.the-variants as W
-use Rattle.decode.specs.Decode.{ownerOf}
+use Rattle.owners.specs.Owners.{numberOf, ownerOf}
 use Rattle.isa.specs.declared.Effect.{Effect}
 use Rattle.isa.specs.declared.Effect.the-variants as E
 use Rattle.gte_registers.specs.Registers.{reg, writeOf}
 use Rattle.gte.specs.Commands.{outcomeOf, commandOf}
 use Rattle.gte.specs.declared.Outcome.{Outcome}
 use Rattle.gte.specs.declared.Outcome.the-variants as O
-use Rattle.control.specs.System.{userOf, usableOf, numberOf, readSystemOf, writeSystemOf, restoredOf}
+use Rattle.control.specs.System.{userOf, usableOf, readSystemOf, writeSystemOf, restoredOf}
 use Rattle.delay.specs.State.{State, state}
 use Rattle.delay.specs.Delay.{currentOf}
-use Rattle.effects.specs.Effects.{nextStep, writeStep, jumpStep, linkStep, productStep, systemStep, waitStep}
+use Rattle.effects.specs.Effects.{nextStep, writeStep, productStep, systemStep, waitStep}
+use Rattle.jumps.specs.Jumps.{jumpStep, linkStep}
 use Rattle.traps.specs.Traps.{trapStep, faultStep}
 use Rattle.step_laws.proofs.Formed.{effectOf}
 use Rattle.perform.specs.Perform.{Tick, tick, geometryStep, loaded, afterLoad, loadStep, loadGeometryStep, afterStore, storeStep, performOf}

@@ -1,115 +1,97 @@
--- Every product and partial sum fits 64 bits, by the bounds of its factors.
+-- Each product has 31 bits, so that every partial sum fits 64.
 use borrow.Author.Needs.{needs}
-use mathlib.Core.Path.{_≡_}
-use lib.IntN.{ℤ, _+ℤ_, _-ℤ_, _*ℤ_}
-use mir.Syntax.{w16, w64}
-use mir.Val.{SFits, toZ, ofZ}
+use Prim.Native.Nat.{_+_, _^_}
+use lib.IntN.{ℤ, _+ℤ_, _-ℤ_}
+use mir.Syntax.{w64}
+use mir.Val.{SFits}
 use mir.Facts.{toZ-ofZ}
-use Rattle.integers.specs.Bound.{fit, arg, mag-mul, mag-add, mag-sub}
+use Rattle.integers.specs.Parts.{Mag}
+use Rattle.integers.specs.Bound.{back, fit, mag-add, mag-sub}
 use Rattle.gte_depth.proofs.add_products.Statement.{statement}
 use Rattle.gte_depth.proofs.add_products.Tie as tie
 
--- a product as the code has it
-times : {a b : ℤ} → SFits w16 a → SFits w16 b → toZ w64 (ofZ w64 (toZ w64 (ofZ w64 (toZ w16 (ofZ w16 a))) *ℤ toZ w64 (ofZ w64 (toZ w16 (ofZ w16 b))))) ≡ a *ℤ b
-times f g =
-    let h : SFits w64 _ = fit w64 (arg w16 f) tt in
-    let k : SFits w64 _ = fit w64 (arg w16 g) tt in
-    rw (toZ-ofZ f, toZ-ofZ g, toZ-ofZ h, toZ-ofZ k, toZ-ofZ (fit w64 (mag-mul (arg w16 f) (arg w16 g)) tt))
+abbrev Small : ℤ → Type 0
+Small x = Mag x (2 ^ 30 + 1)
 
-record Facts (x y x′ y′ x″ y″ : ℤ) : Type 0 where
-  x64 : SFits w64 x
-  y64 : SFits w64 y
-  x64′ : SFits w64 x′
-  y64′ : SFits w64 y′
-  x64″ : SFits w64 x″
-  y64″ : SFits w64 y″
-  p₁ : SFits w64 (x *ℤ y′)
-  p₂ : SFits w64 (x′ *ℤ y″)
-  p₃ : SFits w64 (x″ *ℤ y)
-  p₄ : SFits w64 (x *ℤ y″)
-  p₅ : SFits w64 (x′ *ℤ y)
-  p₆ : SFits w64 (x″ *ℤ y′)
-  s₂ : SFits w64 (x *ℤ y′ +ℤ x′ *ℤ y″)
-  s₃ : SFits w64 (x *ℤ y′ +ℤ x′ *ℤ y″ +ℤ x″ *ℤ y)
-  s₄ : SFits w64 (x *ℤ y′ +ℤ x′ *ℤ y″ +ℤ x″ *ℤ y -ℤ x *ℤ y″)
-  s₅ : SFits w64 (x *ℤ y′ +ℤ x′ *ℤ y″ +ℤ x″ *ℤ y -ℤ x *ℤ y″ -ℤ x′ *ℤ y)
-  s₆ : SFits w64 (x *ℤ y′ +ℤ x′ *ℤ y″ +ℤ x″ *ℤ y -ℤ x *ℤ y″ -ℤ x′ *ℤ y -ℤ x″ *ℤ y′)
+fits-2 : {p q : ℤ} → Small p → Small q → SFits w64 (p +ℤ q)
+fits-2 a b = fit w64 (mag-add a b) tt
 
-facts : (x y x′ y′ x″ y″ : ℤ) → SFits w16 x → SFits w16 y → SFits w16 x′ → SFits w16 y′ → SFits w16 x″ → SFits w16 y″ → Facts x y x′ y′ x″ y″
-facts x y x′ y′ x″ y″ hx hy hx′ hy′ hx″ hy″ =
-    let m₁ = mag-mul (arg w16 hx) (arg w16 hy′) in
-    let m₂ = mag-mul (arg w16 hx′) (arg w16 hy″) in
-    let m₃ = mag-mul (arg w16 hx″) (arg w16 hy) in
-    let m₄ = mag-mul (arg w16 hx) (arg w16 hy″) in
-    let m₅ = mag-mul (arg w16 hx′) (arg w16 hy) in
-    let m₆ = mag-mul (arg w16 hx″) (arg w16 hy′) in
-    let n₃ = mag-add (mag-add m₁ m₂) m₃ in
-    record {
-      x64 = fit w64 (arg w16 hx) tt;
-      y64 = fit w64 (arg w16 hy) tt;
-      x64′ = fit w64 (arg w16 hx′) tt;
-      y64′ = fit w64 (arg w16 hy′) tt;
-      x64″ = fit w64 (arg w16 hx″) tt;
-      y64″ = fit w64 (arg w16 hy″) tt;
-      p₁ = fit w64 m₁ tt;
-      p₂ = fit w64 m₂ tt;
-      p₃ = fit w64 m₃ tt;
-      p₄ = fit w64 m₄ tt;
-      p₅ = fit w64 m₅ tt;
-      p₆ = fit w64 m₆ tt;
-      s₂ = fit w64 (mag-add m₁ m₂) tt;
-      s₃ = fit w64 n₃ tt;
-      s₄ = fit w64 (mag-sub n₃ m₄) tt;
-      s₅ = fit w64 (mag-sub (mag-sub n₃ m₄) m₅) tt;
-      s₆ = fit w64 (mag-sub (mag-sub (mag-sub n₃ m₄) m₅) m₆) tt;
-    }
+fits-3 : {p q r : ℤ} → Small p → Small q → Small r → SFits w64 (p +ℤ q +ℤ r)
+fits-3 a b d = fit w64 (mag-add (mag-add a b) d) tt
 
-at : (c : tie.Start) → let a = c .args in Facts (a .x0) (a .y0) (a .x1) (a .y1) (a .x2) (a .y2)
-at c = let f = c .fits in facts _ _ _ _ _ _ (f .x0) (f .y0) (f .x1) (f .y1) (f .x2) (f .y2)
+fits-4 : {p q r s : ℤ} → Small p → Small q → Small r → Small s → SFits w64 (p +ℤ q +ℤ r -ℤ s)
+fits-4 a b d e = fit w64 (mag-sub (mag-add (mag-add a b) d) e) tt
+
+fits-5 : {p q r s t : ℤ} → Small p → Small q → Small r → Small s → Small t → SFits w64 (p +ℤ q +ℤ r -ℤ s -ℤ t)
+fits-5 a b d e f = fit w64 (mag-sub (mag-sub (mag-add (mag-add a b) d) e) f) tt
+
+fits-6 : {p q r s t u : ℤ} → Small p → Small q → Small r → Small s → Small t → Small u → SFits w64 (p +ℤ q +ℤ r -ℤ s -ℤ t -ℤ u)
+fits-6 a b d e f g = fit w64 (mag-sub (mag-sub (mag-sub (mag-add (mag-add a b) d) e) f) g) tt
+
+add-result : tie.Need-add-result
+add-result c =
+    let p = c .before .times in
+    let q = c .times2 in
+    rw (back w64 (p .result) (p .ok), back w64 (q .result) (q .ok)) (fits-2 (p .ensures .1) (q .ensures .1))
+
+add-result-2 : tie.Need-add-result-2
+add-result-2 c =
+    let p = c .before .before .times in
+    let q = c .before .times2 in
+    let r = c .times3 in
+    rw (back w64 (p .result) (p .ok), back w64 (q .result) (q .ok), back w64 (r .result) (r .ok), toZ-ofZ (fits-2 (p .ensures .1) (q .ensures .1))) (fits-3 (p .ensures .1) (q .ensures .1) (r .ensures .1))
+
+sub-result : tie.Need-sub-result
+sub-result c =
+    let p = c .before .before .before .times in
+    let q = c .before .before .times2 in
+    let r = c .before .times3 in
+    let s = c .times4 in
+    rw (back w64 (p .result) (p .ok), back w64 (q .result) (q .ok), back w64 (r .result) (r .ok), back w64 (s .result) (s .ok), toZ-ofZ (fits-2 (p .ensures .1) (q .ensures .1)), toZ-ofZ (fits-3 (p .ensures .1) (q .ensures .1) (r .ensures .1))) (fits-4 (p .ensures .1) (q .ensures .1) (r .ensures .1) (s .ensures .1))
+
+sub-result-2 : tie.Need-sub-result-2
+sub-result-2 c =
+    let p = c .before .before .before .before .times in
+    let q = c .before .before .before .times2 in
+    let r = c .before .before .times3 in
+    let s = c .before .times4 in
+    let t = c .times5 in
+    rw (back w64 (p .result) (p .ok), back w64 (q .result) (q .ok), back w64 (r .result) (r .ok), back w64 (s .result) (s .ok), back w64 (t .result) (t .ok), toZ-ofZ (fits-2 (p .ensures .1) (q .ensures .1)), toZ-ofZ (fits-3 (p .ensures .1) (q .ensures .1) (r .ensures .1)), toZ-ofZ (fits-4 (p .ensures .1) (q .ensures .1) (r .ensures .1) (s .ensures .1))) (fits-5 (p .ensures .1) (q .ensures .1) (r .ensures .1) (s .ensures .1) (t .ensures .1))
+
+sub-result-3 : tie.Need-sub-result-3
+sub-result-3 c =
+    let p = c .before .before .before .before .before .times in
+    let q = c .before .before .before .before .times2 in
+    let r = c .before .before .before .times3 in
+    let s = c .before .before .times4 in
+    let t = c .before .times5 in
+    let u = c .times6 in
+    rw (back w64 (p .result) (p .ok), back w64 (q .result) (q .ok), back w64 (r .result) (r .ok), back w64 (s .result) (s .ok), back w64 (t .result) (t .ok), back w64 (u .result) (u .ok), toZ-ofZ (fits-2 (p .ensures .1) (q .ensures .1)), toZ-ofZ (fits-3 (p .ensures .1) (q .ensures .1) (r .ensures .1)), toZ-ofZ (fits-4 (p .ensures .1) (q .ensures .1) (r .ensures .1) (s .ensures .1)), toZ-ofZ (fits-5 (p .ensures .1) (q .ensures .1) (r .ensures .1) (s .ensures .1) (t .ensures .1))) (fits-6 (p .ensures .1) (q .ensures .1) (r .ensures .1) (s .ensures .1) (t .ensures .1) (u .ensures .1))
 
 returns : tie.Need-returns
 returns c =
-    let h = at c in
-    let f = c .fits in
-    rw (
-      times (f .x0) (f .y1),
-      times (f .x1) (f .y2),
-      times (f .x2) (f .y0),
-      times (f .x0) (f .y2),
-      times (f .x1) (f .y0),
-      times (f .x2) (f .y1),
-      toZ-ofZ (h .s₂),
-      toZ-ofZ (h .s₃),
-      toZ-ofZ (h .s₄),
-      toZ-ofZ (h .s₅),
-      toZ-ofZ (h .s₆),
-    )
+    let p = c .before .before .before .before .before .times in
+    let q = c .before .before .before .before .times2 in
+    let r = c .before .before .before .times3 in
+    let s = c .before .before .times4 in
+    let t = c .before .times5 in
+    let u = c .times6 in
+    let f = c .before .before .before .before .before .before .fits in
+    rw (back w64 (p .result) (p .ok), back w64 (q .result) (q .ok), back w64 (r .result) (r .ok), back w64 (s .result) (s .ok), back w64 (t .result) (t .ok), back w64 (u .result) (u .ok), toZ-ofZ (fits-2 (p .ensures .1) (q .ensures .1)), toZ-ofZ (fits-3 (p .ensures .1) (q .ensures .1) (r .ensures .1)), toZ-ofZ (fits-4 (p .ensures .1) (q .ensures .1) (r .ensures .1) (s .ensures .1)), toZ-ofZ (fits-5 (p .ensures .1) (q .ensures .1) (r .ensures .1) (s .ensures .1) (t .ensures .1)), toZ-ofZ (fits-6 (p .ensures .1) (q .ensures .1) (r .ensures .1) (s .ensures .1) (t .ensures .1) (u .ensures .1)), p .ensures .0, q .ensures .0, r .ensures .0, s .ensures .0, t .ensures .0, u .ensures .0, toZ-ofZ (f .x0), toZ-ofZ (f .y0), toZ-ofZ (f .x1), toZ-ofZ (f .y1), toZ-ofZ (f .x2), toZ-ofZ (f .y2))
 
 pub add-products-spec : {M : Type 1} → statement M
 add-products-spec =
     tie.close
     (tie.spec
-    (λ c. let h = at c in search needs)
-    (λ c. let h = at c in search needs)
-    (λ c. let h = at c in search needs)
-    (λ c. let h = at c in search needs)
-    (λ c. let h = at c in search needs)
-    (λ c. let h = at c in search needs)
-    (λ c. let h = at c in search needs)
-    (λ c. let h = at c in search needs)
-    (λ c. let h = at c in search needs)
-    (λ c. let h = at c in search needs)
-    (λ c. let h = at c in search needs)
-    (λ c. let h = at c in search needs)
-    (λ c. let h = at c in search needs)
-    (λ c. let h = at c in search needs)
-    (λ c. let h = at c in search needs)
-    (λ c. let h = at c in search needs)
-    (λ c. let h = at c in search needs)
-    (λ c. let h = at c in search needs)
-    (λ c. let h = at c in search needs)
-    (λ c. let h = at c in search needs)
-    (λ c. let h = at c in search needs)
-    (λ c. let h = at c in search needs)
-    (λ c. let h = at c in search needs)
+    (λ c κs. search needs)
+    (λ c κs. search needs)
+    add-result
+    (λ c κs. search needs)
+    add-result-2
+    (λ c κs. search needs)
+    sub-result
+    (λ c κs. search needs)
+    sub-result-2
+    (λ c κs. search needs)
+    sub-result-3
     returns)

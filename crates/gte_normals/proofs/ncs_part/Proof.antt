@@ -8,10 +8,11 @@ use Rattle.gte_line.specs.Line.{lineOf, lineChecks}
 use Rattle.gte_arithmetic.proofs.Flags.{flags-++}
 use Rattle.gte_colour.specs.Shade.{shadeOf}
 use Rattle.gte_inputs.specs.Inputs.{Inputs, inputsOf}
-use Rattle.gte_normals.specs.Normals.{lightSums, litIr, lastChecks, ncsChecks, ncsOf}
-use Rattle.gte_cueing.specs.Cueing.{backSums}
-use Rattle.gte_cueing.proofs.Lines.{after-line, code, withFlag}
-use Rattle.gte_normals.proofs.Normal.{last-flags}
+use Rattle.gte_normals.specs.Normals.{lastChecks, ncsChecks, ncsOf}
+use Rattle.gte_lights.specs.Lights.{lightSums, litIr, backSums}
+use Rattle.gte_lights.proofs.Lines.{after-line}
+use Rattle.gte_cueing.proofs.Lines.{code, withFlag}
+use Rattle.gte_normals.proofs.Twice.{last-flags}
 use Rattle.gte_normals.proofs.ncs_part.Statement.{statement}
 use Rattle.gte_normals.proofs.ncs_part.Tie as tie
 

@@ -13,7 +13,8 @@ use Rattle.gte_line.specs.Line.{cellOf}
 use Rattle.gte_arithmetic.specs.Values.{macOf, irOf, depthOf, sumFlag}
 use Rattle.gte_values.specs.declared.Wide.{Wide}
 use Rattle.gte_arithmetic.proofs.Flags.{or-assoc}
-use Rattle.gte_projection.specs.Projection.{farOf, onScreen, vertexOf, vertexChecks}
+use Rattle.gte_projection.specs.Projection.{farOf, vertexOf, vertexChecks}
+use Rattle.gte_perspective.specs.Perspective.{onScreen}
 use Rattle.gte_values.specs.declared.Camera.{Camera}
 use Rattle.gte_projection.specs.declared.Third.{Third}
 use Rattle.gte_values.specs.declared.Vertex.{Vertex}

@@ -6,9 +6,10 @@ use Rattle.gte_line.specs.Line.{lineOf}
 use Rattle.gte_tones.specs.Tones.{tonesOf}
 use Rattle.gte_colour.specs.Shade.{shadeOf, shadeChecks}
 use Rattle.gte_inputs.specs.Inputs.{Inputs, inputsOf}
-use Rattle.gte_cueing.specs.Cueing.{backSums}
+use Rattle.gte_lights.specs.Lights.{backSums}
 use Rattle.gte_shading.specs.Shading.{irTones, ccOf}
-use Rattle.gte_cueing.proofs.Lines.{after-line, shade-flags, code, withFlag}
+use Rattle.gte_lights.proofs.Lines.{after-line}
+use Rattle.gte_cueing.proofs.Lines.{shade-flags, code, withFlag}
 use Rattle.gte_shading.proofs.cc_part.Statement.{statement}
 use Rattle.gte_shading.proofs.cc_part.Tie as tie
 

@@ -5,9 +5,11 @@ use mathlib.Core.Bool.{Bool}
 use Rattle.gte_line.specs.Line.{lineOf}
 use Rattle.gte_tones.specs.Tones.{tonesOf}
 use Rattle.gte_inputs.specs.Inputs.{Inputs, inputsOf}
-use Rattle.gte_cueing.specs.Cueing.{backSums, cuedChecks, depthCued}
+use Rattle.gte_cueing.specs.Cueing.{cuedChecks, depthCued}
+use Rattle.gte_lights.specs.Lights.{backSums}
 use Rattle.gte_shading.specs.Shading.{irTones, cdpOf}
-use Rattle.gte_cueing.proofs.Lines.{after-line, cued-flags, code, withFlag}
+use Rattle.gte_lights.proofs.Lines.{after-line}
+use Rattle.gte_cueing.proofs.Lines.{cued-flags, code, withFlag}
 use Rattle.gte_shading.proofs.cdp_part.Statement.{statement}
 use Rattle.gte_shading.proofs.cdp_part.Tie as tie
 
