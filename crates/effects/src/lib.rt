@@ -18,31 +18,25 @@ use mul_div::HiLo;
 pub fn do_next(c: Control, r: &mut [u32; 32]) -> Control
     ensures { λ d. ⌜ ((g m : List ℕ) → state d (now (r .exit)) g m ≡ nextStep (state c (now (r .entry)) g m)) ⌝ }
 {
-    let f = c.flow;
-    let p = c.pending;
-    land(p, r);
-    with_flow(c, next(f), nothing())
+    land(c.pending, r);
+    with_flow(c, next(c.flow), nothing())
 }
 
 pub fn do_write(c: Control, r: &mut [u32; 32], n: usize, v: u32) -> Control
     ensures { λ d. ⌜ ((g m : List ℕ) → state d (now (r .exit)) g m ≡ writeStep n v (state c (now (r .entry)) g m)) ⌝ }
 {
-    let f = c.flow;
-    let p = c.pending;
-    land(p, r);
+    land(c.pending, r);
     write_register(r, n, v);
-    with_flow(c, next(f), nothing())
+    with_flow(c, next(c.flow), nothing())
 }
 
 pub fn do_product(c: Control, r: &mut [u32; 32], h: HiLo) -> Control
     ensures { λ d. ⌜ ((g m : List ℕ) → state d (now (r .exit)) g m ≡ productStep h (state c (now (r .entry)) g m)) ⌝ }
 {
-    let f = c.flow;
-    let p = c.pending;
     let s = c.system;
-    land(p, r);
+    land(c.pending, r);
     Control {
-        flow: next(f),
+        flow: next(c.flow),
         pending: nothing(),
         system: s,
         product: h,
@@ -52,12 +46,10 @@ pub fn do_product(c: Control, r: &mut [u32; 32], h: HiLo) -> Control
 pub fn do_system(c: Control, r: &mut [u32; 32], s: System) -> Control
     ensures { λ d. ⌜ ((g m : List ℕ) → state d (now (r .exit)) g m ≡ systemStep s (state c (now (r .entry)) g m)) ⌝ }
 {
-    let f = c.flow;
-    let p = c.pending;
     let h = c.product;
-    land(p, r);
+    land(c.pending, r);
     Control {
-        flow: next(f),
+        flow: next(c.flow),
         pending: nothing(),
         system: s,
         product: h,
@@ -68,8 +60,6 @@ pub fn do_system(c: Control, r: &mut [u32; 32], s: System) -> Control
 pub fn do_wait(c: Control, r: &mut [u32; 32], n: usize, v: u32) -> Control
     ensures { λ d. ⌜ ((g m : List ℕ) → state d (now (r .exit)) g m ≡ waitStep n v (state c (now (r .entry)) g m)) ⌝ }
 {
-    let f = c.flow;
-    let p = c.pending;
-    land_unless(p, r, n);
-    with_flow(c, next(f), to_wait(n, v))
+    land_unless(c.pending, r, n);
+    with_flow(c, next(c.flow), to_wait(n, v))
 }

@@ -49,11 +49,10 @@ pub fn raise(c: Control, code: u32, unit: u32) -> Control
     requires { ⌜ unit < 4 ⌝ }
     ensures { λ r. ⌜ r ≡ raisedOf c code unit ⌝ }
 {
-    let f = c.flow;
     let s = c.system;
     let h = c.product;
     let pc = vector(s);
-    let after = raised_system(s, f, code, unit);
+    let after = raised_system(s, c.flow, code, unit);
     Control {
         flow: Flow {
             pc: pc,

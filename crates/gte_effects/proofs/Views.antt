@@ -5,13 +5,14 @@ use Prim.Native.Nat.{ℕ}
 use lib.ListN.{length}
 use Rattle.gte_values.specs.declared.Line.{Line}
 use Rattle.gte_registers.specs.Registers.{kinds, readOf, reads, view}
+use Rattle.gte_arithmetic.proofs.Flags.{flagWord-twice}
 use Rattle.gte_registers.proofs.Views.{short-short, half-half, from, spelt}
 use Rattle.gte_effects.specs.Effects.{stored, flagged, lineLeft}
 
 -- ---- what a command leaves: over the elements, then over a list of 64
 line-seen : (l : Line) (s : List ℕ) → reads (lineLeft l (from 64 0 s)) ≡ reads (lineLeft l (reads s))
 unfolding reads readOf kinds lineLeft stored flagged
-line-seen l s = simp (short-short, half-half)
+line-seen l s = simp (short-short, half-half, flagWord-twice)
 
 pub line-view : (l : Line) (s : List ℕ) → length s ≡ 64 → view (lineLeft l s) ≡ reads (lineLeft l (view s))
 unfolding view

@@ -14,18 +14,14 @@ use flow::with_flow;
 pub fn do_jump(c: Control, r: &mut [u32; 32], target: u32) -> Control
     ensures { λ d. ⌜ ((g m : List ℕ) → state d (now (r .exit)) g m ≡ jumpStep target (state c (now (r .entry)) g m)) ⌝ }
 {
-    let f = c.flow;
-    let p = c.pending;
-    land(p, r);
-    with_flow(c, jump(f, target), nothing())
+    land(c.pending, r);
+    with_flow(c, jump(c.flow, target), nothing())
 }
 
 pub fn do_link(c: Control, r: &mut [u32; 32], n: usize, link: u32, target: u32) -> Control
     ensures { λ d. ⌜ ((g m : List ℕ) → state d (now (r .exit)) g m ≡ linkStep n link target (state c (now (r .entry)) g m)) ⌝ }
 {
-    let f = c.flow;
-    let p = c.pending;
-    land(p, r);
+    land(c.pending, r);
     write_register(r, n, link);
-    with_flow(c, jump(f, target), nothing())
+    with_flow(c, jump(c.flow, target), nothing())
 }

@@ -70,11 +70,8 @@ fn issue(word: u32, c: Control, r: &mut [u32; 32], g: &mut [u32; 64], ram: &mut 
     requires { ⌜ RamOk (now ram) ⌝ }
     ensures { λ d. ⌜ tick (d .stop) (state (d .control) (now (r .exit)) (view (now (g .exit))) (now (ram .exit))) ≡ issueOf word (state c (now (r .entry)) (view (now (g .entry))) (now (ram .entry))) ⌝ }
 {
-    let f = c.flow;
-    let s = c.system;
-    let h = c.product;
     let o = owner_of(word);
-    if usable(o, s) {
+    if usable(o, c.system) {
         let rs = (word / 0x20_0000 % 32) as usize;
         let rt = (word / 0x1_0000 % 32) as usize;
         let t = fields_of(word);
@@ -82,7 +79,7 @@ fn issue(word: u32, c: Control, r: &mut [u32; 32], g: &mut [u32; 64], ram: &mut 
         let b = r[rt];
         // Last, so that the compiler joins its choice with that of execute.
         let op = decode(word);
-        let e = execute(op, t, a, b, f.next, h);
+        let e = execute(op, t, a, b, c.flow.next, c.product);
         carry_out(e, c, r, g, ram)
     } else {
         done(trap(c, r, 11, number(o)))
@@ -93,11 +90,9 @@ pub fn step(c: Control, r: &mut [u32; 32], g: &mut [u32; 64], ram: &mut [u8]) ->
     requires { ⌜ RamOk (now ram) ⌝ }
     ensures { λ d. ⌜ tick (d .stop) (state (d .control) (now (r .exit)) (view (now (g .exit))) (now (ram .exit))) ≡ stepOf (state c (now (r .entry)) (view (now (g .entry))) (now (ram .entry))) ⌝ }
 {
-    let f = c.flow;
-    let s = c.system;
-    match load(LoadKind::Word, ram, Virt(f.pc), user(s), 0) {
+    match load(LoadKind::Word, ram, Virt(c.flow.pc), user(c.system), 0) {
         Loaded::Value(word) => issue(word, c, r, g, ram),
         Loaded::Bus => done(trap(c, r, 6, 0)),
-        Loaded::Address => done(fault(c, r, 4, f.pc)),
+        Loaded::Address => done(fault(c, r, 4, c.flow.pc)),
     }
 }

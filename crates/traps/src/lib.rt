@@ -12,8 +12,7 @@ use exceptions::with_bad_address;
 pub fn trap(c: Control, r: &mut [u32; 32], code: u32, unit: u32) -> Control
     ensures { λ d. ⌜ ((g m : List ℕ) → state d (now (r .exit)) g m ≡ trapStep code unit (state c (now (r .entry)) g m)) ⌝ }
 {
-    let p = c.pending;
-    land(p, r);
+    land(c.pending, r);
     raise(c, code % 32, unit % 4)
 }
 
