@@ -300,7 +300,7 @@ fn follow(
 ) -> Case {
     match letter {
         b'g' => {
-            gte_writes::write(g, a as usize, b);
+            gte_registers::writes::write(g, a as usize, b);
             x
         }
         b'w' => {
@@ -345,7 +345,12 @@ fn check_line(
     match letter {
         b'x' => counted(
             x,
-            compare(t, a, gte_registers::read(g, a as usize) as u64, b as u64),
+            compare(
+                t,
+                a,
+                gte_registers::reads::read(g, a as usize) as u64,
+                b as u64,
+            ),
         ),
         b'a' => counted(x, compare(t, 0, x.answer, join(a, b))),
         b'r' => counted(

@@ -5,7 +5,7 @@ use Prim.Native.Nat.{ℕ}
 use lib.ListN.{length}
 use Rattle.image.specs.Image.{machineOf, imageOf}
 use Rattle.run.specs.Run.{Run, runOf}
-use Rattle.admission.specs.Refusals.{refusalOf}
+use Rattle.image.specs.Refusals.{refusalOf}
 use Rattle.fliskadee.specs.Find.{Answer, answer, packed, unlessRefused}
 
 -- ---- the run

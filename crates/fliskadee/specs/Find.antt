@@ -6,7 +6,7 @@ use lib.Dec.{eqb}
 use lib.ListN.{length}
 use Rattle.image.specs.Image.{machineOf, imageOf}
 use Rattle.run.specs.Search.{Search, searchOf}
-use Rattle.admission.specs.Refusals.{refusalOf}
+use Rattle.image.specs.Refusals.{refusalOf}
 
 pub record Answer : Type 0 where
   pub number : ℕ

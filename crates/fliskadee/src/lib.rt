@@ -1,13 +1,13 @@
-// What the host in C calls.
+// What the host in C calls. Carries 01 "The run and its numbers": the run and the window, over lent bytes and numbers.
 ghost use mathlib.Core.Path.{_≡_};
 ghost use Prim.Native.Nat.{_+_, _*_, _^_};
 ghost use lib.ListN.{length};
 ghost use Rattle.window.specs.Window.{windowAt, windowLength};
 ghost use Rattle.fliskadee.specs.Find.{answer, findOf};
 ghost use Rattle.fliskadee.specs.Answer.{answerOf};
-use addresses::Virt;
-use admission::admit;
-use image::write_image;
+use image::admission::admit;
+use image::bytes::write_image;
+use memory::addresses::Virt;
 use run::run_until;
 use window::part_of;
 

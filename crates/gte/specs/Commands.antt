@@ -4,26 +4,27 @@ use mathlib.Core.List.{List, [], _∷_, _++_}
 use Prim.Native.Nat.{ℕ, _+_, _/_, _%_}
 use lib.IntN.{pos, _*ℤ_}
 use Rattle.tables.specs.Table.{Row, _⇒_, lookup}
-use Rattle.gte_arithmetic.specs.Checks.{Check, bitAt}
+use Rattle.gte_arithmetic.specs.Checks.{Check}
+use Rattle.words.specs.Words.{bitAt}
 use Rattle.gte_arithmetic.specs.Values.{mac0Checks}
-use Rattle.gte_effects.specs.Effects.{lineLeft}
-use Rattle.gte_shade_effects.specs.ShadeEffects.{shadeLeft, shadesLeft}
-use Rattle.gte_vertex_effects.specs.VertexEffects.{vertexLeft, verticesLeft}
-use Rattle.gte_average_effects.specs.AverageEffects.{windingLeft, averageLeft}
+use Rattle.gte_results.specs.Effects.{lineLeft}
+use Rattle.gte_results.specs.ShadeEffects.{shadeLeft, shadesLeft}
+use Rattle.gte_results.specs.VertexEffects.{vertexLeft, verticesLeft}
+use Rattle.gte_results.specs.AverageEffects.{windingLeft, averageLeft}
 use Rattle.gte_depth.specs.Depth.{windingOf, averageChecks, averageOf}
 use Rattle.gte_colour.specs.Shade.{shadeChecks}
 use Rattle.gte_registers.specs.Registers.{reads}
 use Rattle.gte_inputs.specs.Inputs.{Inputs, inputsOf}
-use Rattle.gte_vertices.specs.Vertices.{vertexAt, vertexChecksAt}
-use Rattle.gte_mvmva.specs.Multiply.{mvmvaOf, mvmvaChecks}
-use Rattle.gte_sqr_op.specs.SqrOp.{squareOf, squareChecks, outerOf, outerChecks}
-use Rattle.gte_normals.specs.Normals.{ncsOf, ncsChecks}
-use Rattle.gte_normal_cueing.specs.NormalCueing.{ncdsOf, ncdsChecks}
-use Rattle.gte_normal_colours.specs.NormalColours.{nccsOf, nccsChecks}
+use Rattle.gte_perspective.specs.Vertices.{vertexAt, vertexChecksAt}
+use Rattle.gte_matrix.specs.Multiply.{mvmvaOf, mvmvaChecks}
+use Rattle.gte_matrix.specs.SqrOp.{squareOf, squareChecks, outerOf, outerChecks}
+use Rattle.gte_lighting.specs.Normals.{ncsOf, ncsChecks}
+use Rattle.gte_lighting.specs.NormalCueing.{ncdsOf, ncdsChecks}
+use Rattle.gte_lighting.specs.NormalColours.{nccsOf, nccsChecks}
 use Rattle.gte_shading.specs.Shading.{ccOf, ccChecks, cdpOf, cdpChecks}
-use Rattle.gte_interpolation.specs.Interpolation.{gpfFrom, gpfOf, gplFrom, gplOf}
-use Rattle.gte_cueing.specs.Cueing.{depthCuedChecks}
-use Rattle.gte_depth_cueing.specs.DepthCueing.{dcplFrom, dcplOf, intplFrom, intplOf, dpcsFrom, dpcsOf, dpctFrom, dpctOf}
+use Rattle.gte_shading.specs.Interpolation.{gpfFrom, gpfOf, gplFrom, gplOf}
+use Rattle.gte_colour.specs.Cueing.{depthCuedChecks}
+use Rattle.gte_shading.specs.DepthCueing.{dcplFrom, dcplOf, intplFrom, intplOf, dpcsFrom, dpcsOf, dpctFrom, dpctOf}
 use Rattle.gte.specs.declared.Outcome.{Outcome}
 use Rattle.gte.specs.declared.Outcome.the-variants.{Done, Unlisted}
 

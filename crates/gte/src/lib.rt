@@ -1,30 +1,30 @@
-// A command word is carried out.
+// A command word is carried out. Carries 01 "GTE arithmetic": the 22 commands by their low six bits.
 ghost use mathlib.Core.Path.{_≡_};
-ghost use Rattle.gte_arithmetic.specs.Checks.{bitAt};
+ghost use Rattle.words.specs.Words.{bitAt};
 ghost use Rattle.gte_registers.specs.Registers.{view};
 ghost use Rattle.gte.specs.Commands.{outcomeOf, commandOf};
-use gte_averages::avsz3;
-use gte_averages::avsz4;
-use gte_averages::nclip;
-use gte_depth_cueing::dcpl;
-use gte_depth_cueing::dpcs;
-use gte_depth_cueing::dpct;
-use gte_depth_cueing::intpl;
-use gte_interpolation::gpf;
-use gte_interpolation::gpl;
-use gte_mvmva::mvmva;
-use gte_normal_colours::nccs;
-use gte_normal_colours::ncct;
-use gte_normal_cueing::ncds;
-use gte_normal_cueing::ncdt;
-use gte_normals::ncs;
-use gte_normals::nct;
-use gte_shading::cc;
-use gte_shading::cdp;
-use gte_sqr_op::op;
-use gte_sqr_op::sqr;
-use gte_vertices::rtps;
-use gte_vertices::rtpt;
+use gte_depth::averages::avsz3;
+use gte_depth::averages::avsz4;
+use gte_depth::averages::nclip;
+use gte_lighting::normal_colours::nccs;
+use gte_lighting::normal_colours::ncct;
+use gte_lighting::normal_cueing::ncds;
+use gte_lighting::normal_cueing::ncdt;
+use gte_lighting::normals::ncs;
+use gte_lighting::normals::nct;
+use gte_matrix::mvmva::mvmva;
+use gte_matrix::sqr_op::op;
+use gte_matrix::sqr_op::sqr;
+use gte_perspective::vertices::rtps;
+use gte_perspective::vertices::rtpt;
+use gte_shading::colours::cc;
+use gte_shading::colours::cdp;
+use gte_shading::depth_cueing::dcpl;
+use gte_shading::depth_cueing::dpcs;
+use gte_shading::depth_cueing::dpct;
+use gte_shading::depth_cueing::intpl;
+use gte_shading::interpolation::gpf;
+use gte_shading::interpolation::gpl;
 
 // Carried out, or not listed: then nothing has changed.
 pub enum Outcome {
@@ -44,6 +44,7 @@ fn bit_10(word: u32) -> bool
     word / 0x400 % 2 == 1
 }
 
+// One GTE command over the 64 words; the GTE has no other entry but reads and writes of registers.
 pub fn command(c: &mut [u32; 64], word: u32) -> Outcome
     ensures is { λ r. ⌜ r ≡ outcomeOf word ⌝ }
     ensures after { λ _. ⌜ view (now (c .exit)) ≡ commandOf word (view (now (c .entry))) ⌝ }

@@ -12,7 +12,8 @@ use lib.Dec.{eqb, lit<, eqb·zero-suc, eqb·suc-zero, eqb·suc-suc}
 use lib.Bits.{bitOr, bitAnd, or-step, or-zero-r, or-self, or-shr, or-shifted, and-shr, and-step, and-le-r, and-block, and-zero-r, and-mod, and-high}
 use lib.Bits as bits
 use lib.Arith.{bin-ind}
-use Rattle.gte_arithmetic.specs.Checks.{or, raise, Check, fails, flags, flagWord, counted, bitAt, some}
+use Rattle.gte_arithmetic.specs.Checks.{or, raise, Check, fails, flags, flagWord, counted, some}
+use Rattle.words.specs.Words.{bitAt}
 
 -- ---- laws of the OR
 odd : (a b : ℕ) → bitOr a b % 2 ≡ max (a % 2) (b % 2)

@@ -3,7 +3,7 @@
 -- of the bits of the checks that fail, so each condition is written once, and nothing else sets a bit.
 use mathlib.Core.Bool.{Bool, true, false, cond, _&&_, _||_}
 use mathlib.Core.List.{List, [], _∷_}
-use Prim.Native.Nat.{ℕ, _+_, _*_, _/_, _%_, _^_}
+use Prim.Native.Nat.{ℕ, _+_, _*_, _^_}
 use lib.IntN.{ℤ}
 use lib.Signed.{ltZ}
 use lib.Dec.{leb, eqb}
@@ -52,10 +52,6 @@ counted = 0x7f87_e000
 -- register 63 as it reads: bits 30..12 of the word that was written, and bit 31
 unfoldable pub flagWord : ℕ → ℕ
 flagWord f = cond (eqb (bitAnd f counted) 0) 0 0x8000_0000 + bitAnd f 0x7fff_f000
-
--- bit b of a word is set
-abbrev pub bitAt : ℕ → ℕ → Bool
-bitAt b n = eqb (n / 2 ^ b % 2) 1
 
 -- some check of bit b fails: the named condition of that bit
 abbrev pub some : ℕ → List Check → Bool

@@ -1,1 +1,3 @@
 pub mod Shade
+pub mod Lights
+pub mod Cueing

@@ -6,10 +6,10 @@ use lib.IntN.{ℤ, pos, _+ℤ_, _-ℤ_, _*ℤ_}
 use Rattle.gte_arithmetic.specs.Checks.{Check, flags}
 use Rattle.gte_arithmetic.specs.Values.{macOf, colourOf, sumChecks, irCheck, colourCheck}
 use Rattle.gte_line.specs.Line.{macsOf, irsOf, lineChecks}
-use Rattle.gte_values.specs.declared.Long.{Long}
-use Rattle.gte_values.specs.declared.Wide.{Wide}
-use Rattle.gte_values.specs.declared.Shade.{Shade}
-use Rattle.gte_colour.specs.declared.Mixed.{Mixed}
+use Rattle.gte_arithmetic.specs.declared.values.Long.{Long}
+use Rattle.gte_arithmetic.specs.declared.values.Wide.{Wide}
+use Rattle.gte_arithmetic.specs.declared.values.Shade.{Shade}
+use Rattle.gte_colour.specs.declared.shade.Mixed.{Mixed}
 
 -- FC·1000h - MAC, a tested MAC value
 unfoldable pub farther : Long → Wide → Wide

@@ -6,8 +6,8 @@ use lib.Signed.{shrZ}
 use Rattle.integers.specs.Wrap.{wrap}
 use Rattle.gte_arithmetic.specs.Checks.{Check, flags}
 use Rattle.gte_arithmetic.specs.Values.{depthOf, mac0Checks, depthCheck}
-use Rattle.gte_values.specs.declared.Average.{Average}
-use Rattle.gte_values.specs.declared.Corner.{Corner}
+use Rattle.gte_arithmetic.specs.declared.values.Average.{Average}
+use Rattle.gte_arithmetic.specs.declared.values.Corner.{Corner}
 
 -- NCLIP: SX0·SY1 + SX1·SY2 + SX2·SY0 - SX0·SY2 - SX1·SY0 - SX2·SY1
 unfoldable pub windingOf : Corner → Corner → Corner → ℤ

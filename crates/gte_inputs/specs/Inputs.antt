@@ -5,10 +5,10 @@ use lib.IntN.{ℤ}
 use mir.Syntax.{w16, w32}
 use mir.Val.{toZ}
 use Rattle.words.specs.Words.{lowSigned, highHalf}
-use Rattle.gte_values.specs.declared.Vector.{Vector}
-use Rattle.gte_values.specs.declared.Long.{Long}
-use Rattle.gte_values.specs.declared.Camera.{Camera}
-use Rattle.gte_values.specs.declared.Corner.{Corner}
+use Rattle.gte_arithmetic.specs.declared.values.Vector.{Vector}
+use Rattle.gte_arithmetic.specs.declared.values.Long.{Long}
+use Rattle.gte_arithmetic.specs.declared.values.Camera.{Camera}
+use Rattle.gte_arithmetic.specs.declared.values.Corner.{Corner}
 use Rattle.gte_registers.specs.Registers.{reg}
 
 -- three rows of three in five words: 11, 12 | 13, 21 | 22, 23 | 31, 32 | 33, the low half first

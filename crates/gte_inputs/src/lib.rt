@@ -1,39 +1,13 @@
-// What commands read of the registers: IR0, the depths and their factors.
-ghost use mathlib.Core.Path.{_≡_};
-ghost use Prim.Native.Nat.{_+_, _<_, _^_};
-ghost use Rattle.gte_inputs.specs.Inputs.{inputsOf};
-use words::low_half;
+// What commands read of the 64 words. Carries 01 "COP2 registers" for commands: signed halves, H unsigned, the three matrices.
 
-// IR0.
-pub fn ir0(c: &[u32; 64]) -> i16
-    ensures { λ r. ⌜ r ≡ inputsOf (now (c .entry)) .ir0 ⌝ }
-{
-    low_half(c[8])
-}
+// RT, LLM and LCM.
+pub mod matrices;
 
-// SZ1 + SZ2 + SZ3, and SZ0 with them.
-pub fn three_depths(c: &[u32; 64]) -> u32
-    ensures is { λ r. ⌜ r ≡ inputsOf (now (c .entry)) .sz1 + inputsOf (now (c .entry)) .sz2 + inputsOf (now (c .entry)) .sz3 ⌝ }
-    ensures small { λ r. ⌜ r < 2 ^ 18 ⌝ }
-{
-    c[17] % 65536 + c[18] % 65536 + c[19] % 65536
-}
+// IR0, the depths and their factors.
+pub mod scalars;
 
-pub fn four_depths(c: &[u32; 64]) -> u32
-    ensures is { λ r. ⌜ r ≡ inputsOf (now (c .entry)) .sz0 + inputsOf (now (c .entry)) .sz1 + inputsOf (now (c .entry)) .sz2 + inputsOf (now (c .entry)) .sz3 ⌝ }
-    ensures small { λ r. ⌜ r < 2 ^ 18 ⌝ }
-{
-    c[16] % 65536 + c[17] % 65536 + c[18] % 65536 + c[19] % 65536
-}
+// The camera, and the points on the screen.
+pub mod screen;
 
-pub fn factor3(c: &[u32; 64]) -> i16
-    ensures { λ r. ⌜ r ≡ inputsOf (now (c .entry)) .zsf3 ⌝ }
-{
-    low_half(c[61])
-}
-
-pub fn factor4(c: &[u32; 64]) -> i16
-    ensures { λ r. ⌜ r ≡ inputsOf (now (c .entry)) .zsf4 ⌝ }
-{
-    low_half(c[62])
-}
+// V0..V2, IR1..3, and the vectors of 32 bits.
+pub mod vectors;

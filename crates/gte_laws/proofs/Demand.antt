@@ -4,16 +4,17 @@ use mathlib.Core.Bool.{true, false}
 use mathlib.Core.List.{List, _++_}
 use Prim.Native.Nat.{ℕ, _/_, _%_, _^_}
 use lib.ListN.{length}
-use Rattle.gte_arithmetic.specs.Checks.{Check, or, flags, flagWord, counted, bitAt, some}
+use Rattle.gte_arithmetic.specs.Checks.{Check, or, flags, flagWord, counted, some}
+use Rattle.words.specs.Words.{bitAt}
 use Rattle.gte_arithmetic.proofs.Flags.{flags-bit, flags-++, clear-31, some-++, fst, snd}
-use Rattle.gte_projection.specs.Projection.{vertexOf}
-use Rattle.gte_values.specs.declared.Vertex.{Vertex}
+use Rattle.gte_perspective.specs.Projection.{vertexOf}
+use Rattle.gte_arithmetic.specs.declared.values.Vertex.{Vertex}
 use Rattle.gte_registers.specs.Registers.{reg, kinds, readOf, reads, pushedXY}
 use Rattle.gte_inputs.specs.Inputs.{Inputs, inputsOf}
-use Rattle.gte_vertices.specs.Vertices.{rotated, vertexAt, vertexChecksAt}
+use Rattle.gte_perspective.specs.Vertices.{rotated, vertexAt, vertexChecksAt}
 use Rattle.gte.specs.Commands.{Command, RTPS, RTPT, commandIn, sfOf, leaves, outcomeOf, commandOf}
-use Rattle.gte_effects.specs.Effects.{stored, flagged}
-use Rattle.gte_vertex_effects.specs.VertexEffects.{pushedZ, pushedVertex, vertexKept, vertexLeft, verticesLeft}
+use Rattle.gte_results.specs.Effects.{stored, flagged}
+use Rattle.gte_results.specs.VertexEffects.{pushedZ, pushedVertex, vertexKept, vertexLeft, verticesLeft}
 use Rattle.gte_laws.specs.Demand.{tolerance, Near, Goes, single, first, second, third, Demand3}
 use Rattle.gte_registers.proofs.Views.{spelt}
 use Rattle.gte_laws.proofs.Near.{near-part}

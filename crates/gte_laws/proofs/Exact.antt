@@ -8,31 +8,32 @@ use borrow.Author.Tests.{eqb-true}
 use lib.Dec.{eqb}
 use lib.IntN.{ℤ}
 use lib.ListN.{length}
-use Rattle.gte_arithmetic.specs.Checks.{Check, or, flags, flagWord, bitAt, counted}
+use Rattle.gte_arithmetic.specs.Checks.{Check, or, flags, flagWord, counted}
+use Rattle.words.specs.Words.{bitAt}
 use Rattle.gte_arithmetic.specs.Values.{mac0Checks}
-use Rattle.gte_values.specs.declared.Line.{Line}
+use Rattle.gte_arithmetic.specs.declared.values.Line.{Line}
 use Rattle.gte_arithmetic.proofs.Flags.{flags-bit, flags-++, flag-word-bit, clear-31, clear-all}
-use Rattle.gte_projection.specs.Projection.{vertexOf}
+use Rattle.gte_perspective.specs.Projection.{vertexOf}
 use Rattle.gte_depth.specs.Depth.{averageChecks, averageOf}
-use Rattle.gte_values.specs.declared.Vertex.{Vertex}
-use Rattle.gte_values.specs.declared.Average.{Average}
-use Rattle.gte_values.specs.declared.Shade.{Shade}
+use Rattle.gte_arithmetic.specs.declared.values.Vertex.{Vertex}
+use Rattle.gte_arithmetic.specs.declared.values.Average.{Average}
+use Rattle.gte_arithmetic.specs.declared.values.Shade.{Shade}
 use Rattle.gte_registers.specs.Registers.{reg, kinds, readOf, reads, pushedXY}
 use Rattle.gte_registers.proofs.Views.{spelt}
 use Rattle.gte_inputs.specs.Inputs.{Inputs, inputsOf}
-use Rattle.gte_effects.specs.Effects.{stored, flagged, lineLeft}
-use Rattle.gte_shade_effects.specs.ShadeEffects.{pushedColour, shadeLeft, shadesLeft}
-use Rattle.gte_vertex_effects.specs.VertexEffects.{pushedZ, pushedVertex, vertexKept, vertexLeft, verticesLeft}
-use Rattle.gte_average_effects.specs.AverageEffects.{windingLeft, averageLeft}
-use Rattle.gte_normals.specs.Normals.{ncsOf, ncsChecks}
-use Rattle.gte_normal_cueing.specs.NormalCueing.{ncdsOf, ncdsChecks}
-use Rattle.gte_normal_colours.specs.NormalColours.{nccsOf, nccsChecks}
+use Rattle.gte_results.specs.Effects.{stored, flagged, lineLeft}
+use Rattle.gte_results.specs.ShadeEffects.{pushedColour, shadeLeft, shadesLeft}
+use Rattle.gte_results.specs.VertexEffects.{pushedZ, pushedVertex, vertexKept, vertexLeft, verticesLeft}
+use Rattle.gte_results.specs.AverageEffects.{windingLeft, averageLeft}
+use Rattle.gte_lighting.specs.Normals.{ncsOf, ncsChecks}
+use Rattle.gte_lighting.specs.NormalCueing.{ncdsOf, ncdsChecks}
+use Rattle.gte_lighting.specs.NormalColours.{nccsOf, nccsChecks}
 use Rattle.gte_shading.specs.Shading.{ccOf, cdpOf}
-use Rattle.gte_interpolation.specs.Interpolation.{gpfOf, gplOf}
-use Rattle.gte_cueing.specs.Cueing.{depthCued, depthCuedChecks}
-use Rattle.gte_depth_cueing.specs.DepthCueing.{dpctFrom, dpctOf}
-use Rattle.gte_mvmva.specs.Multiply.{farOf, multipliedOf, mvmvaOf}
-use Rattle.gte_sqr_op.specs.SqrOp.{squareOf, outerOf}
+use Rattle.gte_shading.specs.Interpolation.{gpfOf, gplOf}
+use Rattle.gte_colour.specs.Cueing.{depthCued, depthCuedChecks}
+use Rattle.gte_shading.specs.DepthCueing.{dpctFrom, dpctOf}
+use Rattle.gte_matrix.specs.Multiply.{farOf, multipliedOf, mvmvaOf}
+use Rattle.gte_matrix.specs.SqrOp.{squareOf, outerOf}
 use Rattle.gte.specs.Commands.{Command, RTPS, NCLIP, OP, DPCS, INTPL, MVMVA, NCDS, CDP, NCDT, NCCS, CC, NCS, NCT, SQR, DCPL, DPCT, AVSZ3, AVSZ4, RTPT, GPF, GPL, NCCT, unlisted, commandIn, sfOf, lmOf, cvOf, leaves, checksOf, listed, outcomeOf, commandOf}
 use Rattle.gte.specs.declared.Outcome.{Outcome}
 use Rattle.gte.specs.declared.Outcome.the-variants.{Done, Unlisted}

@@ -17,11 +17,11 @@ use Rattle.integers.specs.Clamp.{outside, inside, clamp-clear}
 use Rattle.words.specs.Words.{lowSigned, highHalf}
 use Rattle.gte_arithmetic.specs.Checks.{some, counted}
 use Rattle.gte_arithmetic.specs.Values.{macOf, irOf, depthOf, screenOf, quotient, ratioOf}
-use Rattle.gte_values.specs.declared.Wide.{Wide}
+use Rattle.gte_arithmetic.specs.declared.values.Wide.{Wide}
 use Rattle.gte_arithmetic.proofs.Flags.{fst}
-use Rattle.gte_projection.specs.Projection.{farOf, vertexChecks, vertexOf}
+use Rattle.gte_perspective.specs.Projection.{farOf, vertexChecks, vertexOf}
 use Rattle.gte_perspective.specs.Perspective.{exactOf, pairOf, screenChecks, onScreen}
-use Rattle.gte_values.specs.declared.Camera.{Camera}
+use Rattle.gte_arithmetic.specs.declared.values.Camera.{Camera}
 use Rattle.gte_laws.specs.Demand.{tolerance, Close}
 use Rattle.gte_laws.proofs.Distance.{close, quotient-error}
 

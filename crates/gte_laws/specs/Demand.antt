@@ -8,11 +8,10 @@ use lib.IntN.{ℤ, pos, natAbs, _-ℤ_, _*ℤ_}
 use lib.ListN.{length}
 use lib.Signed.{_≤ℤ_, shrZ}
 use mir.Syntax.{w16}
-use Rattle.gte_arithmetic.specs.Checks.{bitAt}
-use Rattle.words.specs.Words.{lowSigned, highHalf}
+use Rattle.words.specs.Words.{bitAt, lowSigned, highHalf}
 use Rattle.gte_registers.specs.Registers.{reg}
 use Rattle.gte_inputs.specs.Inputs.{inputsOf}
-use Rattle.gte_vertices.specs.Vertices.{rotated}
+use Rattle.gte_perspective.specs.Vertices.{rotated}
 use Rattle.gte.specs.Commands.{Command, RTPS, RTPT, commandIn, sfOf, commandOf}
 
 -- one and a quarter pixels, in 1/65,536 of a pixel

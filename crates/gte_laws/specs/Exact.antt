@@ -5,7 +5,8 @@ use mathlib.Core.List.{List}
 use mathlib.Core.Path.{_≡_}
 use Prim.Native.Nat.{ℕ}
 use lib.ListN.{length}
-use Rattle.gte_arithmetic.specs.Checks.{Check, bitAt, counted, some}
+use Rattle.gte_arithmetic.specs.Checks.{Check, counted, some}
+use Rattle.words.specs.Words.{bitAt}
 use Rattle.gte_registers.specs.Registers.{reg}
 use Rattle.gte_inputs.specs.Inputs.{inputsOf}
 use Rattle.gte.specs.Commands.{commandIn, sfOf, lmOf, checksOf, outcomeOf, commandOf}

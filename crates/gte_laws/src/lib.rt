@@ -1,1 +1,2 @@
-// Theorems about the commands: specs/ states them, proofs/ proves them, and there is no code.
+// Theorems about the commands: demand 2 for FLAG, demand 3 for one command. specs/ states them, proofs/ proves them, and there
+// is no code.

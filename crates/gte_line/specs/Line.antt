@@ -6,10 +6,10 @@ use lib.IntN.{ℤ, pos}
 use Rattle.integers.specs.Clamp.{outside}
 use Rattle.gte_arithmetic.specs.Checks.{or, raise, Check, flags}
 use Rattle.gte_arithmetic.specs.Values.{lowest, macOf, irOf, sumFlag, sumChecks, irCheck}
-use Rattle.gte_values.specs.declared.Vector.{Vector}
-use Rattle.gte_values.specs.declared.Long.{Long}
-use Rattle.gte_values.specs.declared.Wide.{Wide}
-use Rattle.gte_values.specs.declared.Line.{Line}
+use Rattle.gte_arithmetic.specs.declared.values.Vector.{Vector}
+use Rattle.gte_arithmetic.specs.declared.values.Long.{Long}
+use Rattle.gte_arithmetic.specs.declared.values.Wide.{Wide}
+use Rattle.gte_arithmetic.specs.declared.values.Line.{Line}
 use Rattle.gte_line.specs.declared.Cell.{Cell}
 
 -- one of the three, with the bits that it may set named by the caller

@@ -1,19 +1,21 @@
-// One line of a command: MAC1..3 stored from three exact values, and IR1..3 limited from them.
+// One line of a command: MAC1..3 stored from three exact values, and IR1..3 limited from them. Carries 01 "GTE arithmetic":
+// bits 30..22.
 ghost use mathlib.Core.Path.{_≡_};
 ghost use Prim.Native.Nat.{_*_, _^_};
 ghost use Rattle.integers.specs.Parts.{Mag};
 ghost use Rattle.gte_sums.specs.Sums.{Bounded};
 ghost use Rattle.gte_line.specs.Line.{cellOf, lineOf};
-use gte_arithmetic::limit_ir;
-use gte_arithmetic::lowest_ir;
-use gte_store::shift;
-use gte_store::store_mac;
-use gte_store::within;
-use gte_values::Line;
-use gte_values::Long;
-use gte_values::Vector;
-use gte_values::Wide;
+use gte_arithmetic::limits::limit_ir;
+use gte_arithmetic::limits::lowest_ir;
+use gte_arithmetic::mac::shift;
+use gte_arithmetic::mac::store_mac;
+use gte_arithmetic::mac::within;
+use gte_arithmetic::values::Line;
+use gte_arithmetic::values::Long;
+use gte_arithmetic::values::Vector;
+use gte_arithmetic::values::Wide;
 
+// One of the three MAC and IR of a line, with the FLAG bits of their tests.
 pub struct Cell {
     pub mac: i32,
     pub ir: i16,
@@ -51,6 +53,7 @@ pub fn finish_one(x: i64, sf: bool, lm: bool, over: u32, under: u32, bit: u32) -
     finish_tested(x, sf, lm, over, under, bit)
 }
 
+// A whole line: three sums, each with its own bits of FLAG.
 pub fn finish(s: Wide, sf: bool, lm: bool) -> Line
     requires { ⌜ Bounded (3 * 2 ^ 43) s ⌝ }
     ensures { λ r. ⌜ r ≡ lineOf sf lm s ⌝ }

@@ -1,1 +1,3 @@
 pub mod Perspective
+pub mod Projection
+pub mod Vertices

@@ -8,8 +8,8 @@ use mir.Val.{ofZ}
 use Rattle.integers.specs.Wrap.{wrap}
 use Rattle.gte_arithmetic.specs.Checks.{Check, flags}
 use Rattle.gte_arithmetic.specs.Values.{screenOf, factorOf, ratioOf, mac0Checks, divisionCheck, screenCheck, factorCheck}
-use Rattle.gte_values.specs.declared.Camera.{Camera}
-use Rattle.gte_perspective.specs.declared.Screen.{Screen}
+use Rattle.gte_arithmetic.specs.declared.values.Camera.{Camera}
+use Rattle.gte_perspective.specs.declared.screen.Screen.{Screen}
 
 -- a MAC0 value of lines 5 to 7: the quotient times a factor, plus an offset, exact
 unfoldable pub exactOf : ℕ → ℤ → ℤ → ℤ

@@ -1,3 +1,5 @@
 mod Leading
 mod Reading
 pub mod Views
+pub mod Taking
+mod Writing

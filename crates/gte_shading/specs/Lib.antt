@@ -1,1 +1,3 @@
+pub mod DepthCueing
 pub mod Shading
+pub mod Interpolation

@@ -4,13 +4,13 @@ use mathlib.Core.Bool.{Bool}
 use mathlib.Core.List.{List, _++_}
 use Rattle.gte_arithmetic.specs.Checks.{Check}
 use Rattle.gte_line.specs.Line.{lineChecks}
-use Rattle.gte_values.specs.declared.Wide.{Wide}
-use Rattle.gte_tones.specs.Tones.{tonesOf}
+use Rattle.gte_arithmetic.specs.declared.values.Wide.{Wide}
+use Rattle.gte_sums.specs.Tones.{tonesOf}
 use Rattle.gte_colour.specs.Shade.{shadeChecks}
-use Rattle.gte_values.specs.declared.Shade.{Shade}
+use Rattle.gte_arithmetic.specs.declared.values.Shade.{Shade}
 use Rattle.gte_inputs.specs.Inputs.{Inputs}
-use Rattle.gte_cueing.specs.Cueing.{shadeWith, plainEnd, cuedChecks, cuedEnd}
-use Rattle.gte_lights.specs.Lights.{backSums, backIr}
+use Rattle.gte_colour.specs.Cueing.{shadeWith, plainEnd, cuedChecks, cuedEnd}
+use Rattle.gte_colour.specs.Lights.{backSums, backIr}
 
 -- CC and CDP start from IR as it stands
 abbrev pub irTones : Bool → Bool → Inputs → Wide

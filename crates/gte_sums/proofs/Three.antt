@@ -9,7 +9,7 @@ use mir.Facts.{toZ-ofZ}
 use Rattle.integers.specs.Parts.{Mag}
 use Rattle.integers.specs.Bound.{fit, mag-le}
 use Rattle.gte_sums.specs.Sums.{Bounded}
-use Rattle.gte_values.specs.declared.Wide.{Wide}
+use Rattle.gte_arithmetic.specs.declared.values.Wide.{Wide}
 
 -- what is read back from the bits of three numbers
 abbrev pub read : ℤ → ℤ → ℤ → Wide

@@ -4,9 +4,9 @@ use Prim.Native.Nat.{ℕ}
 use lib.IntN.{ℤ, pos, _+ℤ_, _*ℤ_}
 use lib.ListN.{getD}
 use Rattle.integers.specs.Parts.{Mag}
-use Rattle.gte_values.specs.declared.Vector.{Vector}
-use Rattle.gte_values.specs.declared.Long.{Long}
-use Rattle.gte_values.specs.declared.Wide.{Wide}
+use Rattle.gte_arithmetic.specs.declared.values.Vector.{Vector}
+use Rattle.gte_arithmetic.specs.declared.values.Long.{Long}
+use Rattle.gte_arithmetic.specs.declared.values.Wide.{Wide}
 
 -- the entry in row i and column j, both from 0
 abbrev pub entry : List (List ℤ) → ℕ → ℕ → ℤ

@@ -1,1 +1,4 @@
 pub mod Whole
+mod Comparing
+pub mod Facts
+pub mod Refusals

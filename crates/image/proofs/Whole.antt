@@ -6,7 +6,7 @@ use mathlib.Core.Path.{_≡_, sym, ap, _∙_}
 use lib.ListN.{length, take, drop, length-append}
 use lib.Seq.{take-append-seam, drop-append-seam}
 use Rattle.gte_registers.specs.Registers.{view}
-use Rattle.gte_reads.proofs.Taking.{view-long}
+use Rattle.gte_registers.proofs.Taking.{view-long}
 use Rattle.byte_order.specs.Bytes.{wordsAt, bytesOf, setWords}
 use Rattle.byte_order.proofs.Rows.{set-append, set-all, read-append, length-wordsAt, words-back}
 

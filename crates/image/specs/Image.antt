@@ -3,8 +3,8 @@ use mathlib.Core.List.{List, [], _∷_, _++_}
 use Prim.Native.Nat.{ℕ, _+_}
 use lib.ListN.{getD}
 use Rattle.byte_order.specs.Bytes.{wordsAt, bytesOf}
-use Rattle.control.specs.declared.Control.{Control}
-use Rattle.delay.specs.State.{State, state}
+use Rattle.cpu_state.specs.declared.control.Control.{Control}
+use Rattle.cpu_state.specs.State.{State, state}
 
 -- ---- the words: 0..31 are the general registers, 32..43 the control state, 44..107 the COP2 registers
 abbrev pub imageLength : ℕ

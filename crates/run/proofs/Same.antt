@@ -5,9 +5,9 @@ use mathlib.Core.Path.{_≡_, refl, sym, ap, _∙_}
 use lib.Bits.{bitAnd, and-zero-r}
 use lib.Dec.{eqb}
 use Rattle.gte_registers.specs.Registers.{reg}
-use Rattle.delay.specs.State.{State}
-use Rattle.perform.specs.Perform.{Tick}
-use Rattle.processor.specs.Step.{stepOf}
+use Rattle.cpu_state.specs.State.{State}
+use Rattle.cpu_perform.specs.Perform.{Tick}
+use Rattle.cpu_step.specs.Step.{stepOf}
 use Rattle.run.specs.Run.{Run, ran, further, onwards, runOf}
 use Rattle.run.specs.Search.{clearOf, risesOf, foundOf, Search, sought, furtherBy, searchOn, searchOf, searchedBy}
 

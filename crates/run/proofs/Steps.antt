@@ -4,9 +4,9 @@ use native.Mathlib.Nat.{add-zero, add-suc}
 use native.Mathlib.Numerals.{add-one}
 use mathlib.Core.Bool.{Bool, true, false, cond}
 use mathlib.Core.Path.{_≡_, refl, sym, ap, _∙_}
-use Rattle.delay.specs.State.{State}
-use Rattle.perform.specs.Perform.{Tick, tick}
-use Rattle.processor.specs.Step.{stepOf}
+use Rattle.cpu_state.specs.State.{State}
+use Rattle.cpu_perform.specs.Perform.{Tick, tick}
+use Rattle.cpu_step.specs.Step.{stepOf}
 use Rattle.run.specs.Run.{Run, ran, further, onwards, runOf}
 
 one-more : (i : ℕ) (s₀ s : State) (t : Tick) → runOf i s₀ ≡ ran false i s → t ≡ stepOf s → runOf (i + 1) s₀ ≡ further (ran false i s) t

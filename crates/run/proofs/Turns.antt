@@ -8,9 +8,9 @@ use mathlib.Core.List.{List}
 use mathlib.Core.Path.{_≡_, refl, sym, ap, _∙_}
 use lib.Dec.{eqb}
 use lib.ListN.{length}
-use Rattle.delay.specs.State.{State}
-use Rattle.perform.specs.Perform.{Tick, tick}
-use Rattle.processor.specs.Step.{stepOf}
+use Rattle.cpu_state.specs.State.{State}
+use Rattle.cpu_perform.specs.Perform.{Tick, tick}
+use Rattle.cpu_step.specs.Step.{stepOf}
 use Rattle.run.specs.Search.{clearOf, risesOf, foundOf, Search, sought, furtherBy, searchOn, searchOf}
 
 -- what holds after i steps of a search from s₀ that goes on: it is at s

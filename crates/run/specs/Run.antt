@@ -1,9 +1,9 @@
 -- A run: one step, iterated (01 "The run and its numbers").
 use mathlib.Core.Bool.{Bool, false, cond}
 use Prim.Native.Nat.{ℕ, zero, suc, _+_}
-use Rattle.delay.specs.State.{State}
-use Rattle.perform.specs.Perform.{Tick}
-use Rattle.processor.specs.Step.{stepOf}
+use Rattle.cpu_state.specs.State.{State}
+use Rattle.cpu_perform.specs.Perform.{Tick}
+use Rattle.cpu_step.specs.Step.{stepOf}
 
 -- whether the run stands before an unlisted COP2 command, the steps completed, and the machine after them
 pub record Run : Type 0 where

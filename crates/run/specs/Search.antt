@@ -4,9 +4,9 @@ use Prim.Native.Nat.{ℕ, zero, suc, _+_}
 use lib.Bits.{bitAnd}
 use lib.Dec.{eqb}
 use Rattle.gte_registers.specs.Registers.{reg}
-use Rattle.delay.specs.State.{State}
-use Rattle.perform.specs.Perform.{Tick}
-use Rattle.processor.specs.Step.{stepOf}
+use Rattle.cpu_state.specs.State.{State}
+use Rattle.cpu_perform.specs.Perform.{Tick}
+use Rattle.cpu_step.specs.Step.{stepOf}
 use Rattle.run.specs.Run.{Run}
 
 -- none of a mask's bits is set in FLAG

@@ -1,17 +1,18 @@
 // A run of steps over registers, COP2 words and RAM that the caller lends. It can be ended by a bit of FLAG; with mask 0 it is
-// the plain run, so that one loop serves both and the step is compiled into it.
+// the plain run, so that one loop serves both and the step is compiled into it. Carries 01 "The run and its numbers": codes 0
+// and 5, and the steps.
 ghost use mathlib.Core.Path.{_≡_};
 ghost use mathlib.Core.Bool.{_&&_, not};
 ghost use Prim.Native.Nat.{_≤_};
 ghost use lib.Bits.{bitAnd};
 ghost use lib.Dec.{eqb};
-ghost use Rattle.addresses.specs.Addresses.{RamOk};
+ghost use Rattle.memory.specs.Addresses.{RamOk};
 ghost use Rattle.gte_registers.specs.Registers.{view, reg};
-ghost use Rattle.delay.specs.State.{state};
+ghost use Rattle.cpu_state.specs.State.{state};
 ghost use Rattle.run.specs.Search.{sought, searchOf};
-use control::Control;
-use gte_registers::read;
-use processor::step;
+use cpu_state::control::Control;
+use cpu_step::step;
+use gte_registers::reads::read;
 
 // code: 0 where count steps are done, 5 before an unlisted COP2 command, 16 where a bit has come up.
 pub struct Sought {

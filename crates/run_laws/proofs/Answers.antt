@@ -7,14 +7,14 @@ use mathlib.Core.Path.{_≡_, refl, sym, ap, _∙_}
 use lib.Dec.{eqb, leb}
 use lib.ListN.{length}
 use borrow.Author.Tests.{eq-eqb, le-leb, leb-true}
-use Rattle.delay.specs.State.{State}
-use Rattle.addresses.specs.Addresses.{ramLength}
-use Rattle.formed.specs.Formed.{wellFormed}
+use Rattle.cpu_state.specs.State.{State}
+use Rattle.memory.specs.Addresses.{ramLength}
+use Rattle.image.specs.Formed.{wellFormed}
 use Rattle.image.specs.Image.{machineOf, imageOf}
 use Rattle.run.specs.Run.{Run, ran, runOf}
 use Rattle.fliskadee.specs.Find.{Answer, answer, packed, unlessRefused}
 use Rattle.fliskadee.specs.Answer.{codeOf, finished, answerOf}
-use Rattle.admission.specs.Refusals.{mostSteps, afterFormed, refusalOf}
+use Rattle.image.specs.Refusals.{mostSteps, afterFormed, refusalOf}
 use Rattle.step_laws.specs.Formed.{StateFormed}
 use Rattle.run_laws.specs.Runs.{joined, Accepted, codeIn, stepsIn, Again, AcceptedAgain, Cut, CutInTwo}
 use Rattle.run_laws.proofs.Machine.{machine-formed, machine-back, image-accepted}

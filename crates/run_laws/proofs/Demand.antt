@@ -7,18 +7,18 @@ use mathlib.Core.Path.{_≡_, refl, sym, ap, _∙_}
 use lib.Dec.{leb}
 use lib.ListN.{length}
 use borrow.Author.Tests.{leb-true}
-use Rattle.decode.specs.Decode.{decodeOf}
-use Rattle.owners.specs.Owners.{ownerOf}
-use Rattle.decode.specs.declared.Op.{Op}
-use Rattle.decode.specs.declared.Op.the-variants as D
-use Rattle.fields.specs.Fields.{fieldsOf}
-use Rattle.isa.specs.Execute.{executeOf}
-use Rattle.addresses.specs.Addresses.{ramLength}
-use Rattle.delay.specs.State.{State}
-use Rattle.effects.specs.Effects.{nextStep}
-use Rattle.perform.specs.Perform.{Tick, tick, geometryStep, performOf}
-use Rattle.processor.specs.Step.{afterCommand, commandStep, issueOf, stepOf}
-use Rattle.gte_arithmetic.specs.Checks.{bitAt}
+use Rattle.cpu_decode.specs.Decode.{decodeOf}
+use Rattle.cpu_decode.specs.Owners.{ownerOf}
+use Rattle.cpu_decode.specs.declared.operations.Op.{Op}
+use Rattle.cpu_decode.specs.declared.operations.Op.the-variants as D
+use Rattle.cpu_decode.specs.Fields.{fieldsOf}
+use Rattle.cpu_execute.specs.Execute.{executeOf}
+use Rattle.memory.specs.Addresses.{ramLength}
+use Rattle.cpu_state.specs.State.{State}
+use Rattle.cpu_effects.specs.Effects.{nextStep}
+use Rattle.cpu_perform.specs.Perform.{Tick, tick, geometryStep, performOf}
+use Rattle.cpu_step.specs.Step.{afterCommand, commandStep, issueOf, stepOf}
+use Rattle.words.specs.Words.{bitAt}
 use Rattle.gte_registers.specs.Registers.{reg}
 use Rattle.gte.specs.Commands.{Command, commandIn, sfOf, listed, outcomeOf, commandOf}
 use Rattle.gte.specs.declared.Outcome.{Outcome}
@@ -30,7 +30,7 @@ use Rattle.run.specs.Run.{Run, ran, further, onwards, runOf}
 use Rattle.run.proofs.Steps.{stays}
 use Rattle.fliskadee.specs.Find.{Answer, packed}
 use Rattle.fliskadee.specs.Answer.{codeOf, finished, answerOf}
-use Rattle.admission.specs.Refusals.{mostSteps}
+use Rattle.image.specs.Refusals.{mostSteps}
 use Rattle.step_laws.specs.Formed.{StateFormed}
 use Rattle.run_laws.specs.Runs.{Accepted, stepsIn}
 use Rattle.run_laws.specs.Demand.{CarriesOut, Demand3}

@@ -7,9 +7,9 @@ use mathlib.Core.Bool.{Bool, true, false, cond, _||_}
 use mathlib.Core.List.{List}
 use mathlib.Core.Path.{_≡_, refl, sym, ap, ap₂, _∙_}
 use lib.ListN.{length}
-use Rattle.delay.specs.State.{State}
-use Rattle.perform.specs.Perform.{Tick, tick}
-use Rattle.processor.specs.Step.{stepOf}
+use Rattle.cpu_state.specs.State.{State}
+use Rattle.cpu_perform.specs.Perform.{Tick, tick}
+use Rattle.cpu_step.specs.Step.{stepOf}
 use Rattle.run.specs.Run.{Run, ran, further, onwards, runOf}
 use Rattle.step_laws.specs.Formed.{StateFormed}
 use Rattle.step_laws.proofs.Formed.{step-formed}

@@ -9,10 +9,10 @@ use lib.ListN.{length, getD, length-append}
 use Rattle.byte_order.specs.Bytes.{wordsAt, bytesOf}
 use Rattle.byte_order.proofs.Rows.{length-bytesOf, length-wordsAt}
 use Rattle.gte_registers.specs.Registers.{reads, WellFormed}
-use Rattle.delay.specs.State.{State, state}
+use Rattle.cpu_state.specs.State.{State, state}
 use Rattle.image.specs.Image.{registersIn, controlIn, geometryIn, controlOf, controlWords, machineOf, imageOf}
-use Rattle.formed.specs.Formed.{formed, wellFormed}
-use Rattle.formed.proofs.Facts.{Formed, formed-in, formed-out}
+use Rattle.image.specs.Formed.{formed, wellFormed}
+use Rattle.image.proofs.Facts.{Formed, formed-in, formed-out}
 use Rattle.image.proofs.Whole.{Back, back}
 use Rattle.step_laws.specs.Formed.{Only, RegistersFormed, PendingFormed, SystemFormed, StateFormed}
 use Rattle.run_laws.specs.Runs.{Accepted}

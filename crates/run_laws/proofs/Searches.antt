@@ -6,9 +6,9 @@ use mathlib.Core.Bool.{Bool, true, false, cond}
 use mathlib.Core.Path.{_≡_, refl, sym, ap, ap₂, _∙_}
 use lib.Dec.{eqb}
 use borrow.Author.Tests.{eqb-true, eqb-false}
-use Rattle.delay.specs.State.{State}
-use Rattle.perform.specs.Perform.{Tick, tick}
-use Rattle.processor.specs.Step.{stepOf}
+use Rattle.cpu_state.specs.State.{State}
+use Rattle.cpu_perform.specs.Perform.{Tick, tick}
+use Rattle.cpu_step.specs.Step.{stepOf}
 use Rattle.run.specs.Run.{Run, ran, onwards, runOf}
 use Rattle.run.proofs.Steps.{goes-on}
 use Rattle.run.specs.Search.{risesOf, foundOf, Search, sought, furtherBy, searchOn, searchOf}

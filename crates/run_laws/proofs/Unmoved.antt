@@ -7,15 +7,15 @@ use mathlib.Core.Path.{_≡_, refl, sym, ap, _∙_}
 use lib.ListN.{length, getD}
 use Rattle.byte_order.specs.Bytes.{wordsAt, bytesOf}
 use Rattle.byte_order.proofs.Rows.{read-append, bytes-back}
-use Rattle.addresses.specs.Addresses.{ramLength}
-use Rattle.delay.specs.State.{State}
-use Rattle.perform.specs.Perform.{Tick}
-use Rattle.processor.specs.Step.{stepOf}
+use Rattle.memory.specs.Addresses.{ramLength}
+use Rattle.cpu_state.specs.State.{State}
+use Rattle.cpu_perform.specs.Perform.{Tick}
+use Rattle.cpu_step.specs.Step.{stepOf}
 use Rattle.image.specs.Image.{registersIn, controlIn, geometryIn, controlOf, controlWords, machineOf, imageOf}
-use Rattle.formed.proofs.Facts.{formed-in}
+use Rattle.image.proofs.Facts.{formed-in}
 use Rattle.run.specs.Run.{Run, ran, further, onwards, runOf}
 use Rattle.fliskadee.specs.Answer.{finished, answerOf}
-use Rattle.admission.specs.Refusals.{mostSteps}
+use Rattle.image.specs.Refusals.{mostSteps}
 use Rattle.step_laws.proofs.Kept.{step-kept}
 use Rattle.run_laws.specs.Runs.{Accepted, stepsIn, Bytes, NothingDone}
 use Rattle.run_laws.proofs.Joins.{run-going}

@@ -3,15 +3,15 @@ use mathlib.Core.Bool.{true, false}
 use mathlib.Core.List.{List}
 use mathlib.Core.Path.{_≡_}
 use Prim.Native.Nat.{ℕ, suc, _≤_}
-use Rattle.decode.specs.Decode.{decodeOf}
-use Rattle.owners.specs.Owners.{ownerOf}
-use Rattle.decode.specs.declared.Op.the-variants.{Command}
-use Rattle.loads.specs.declared.LoadKind.the-variants.{Word}
-use Rattle.loads.specs.declared.Loaded.the-variants.{Value}
-use Rattle.control.specs.System.{usableOf}
-use Rattle.delay.specs.State.{State}
-use Rattle.perform.specs.Perform.{loaded}
-use Rattle.gte_arithmetic.specs.Checks.{bitAt}
+use Rattle.cpu_decode.specs.Decode.{decodeOf}
+use Rattle.cpu_decode.specs.Owners.{ownerOf}
+use Rattle.cpu_decode.specs.declared.operations.Op.the-variants.{Command}
+use Rattle.memory.specs.declared.loads.LoadKind.the-variants.{Word}
+use Rattle.memory.specs.declared.loads.Loaded.the-variants.{Value}
+use Rattle.cpu_state.specs.System.{usableOf}
+use Rattle.cpu_state.specs.State.{State}
+use Rattle.cpu_perform.specs.Perform.{loaded}
+use Rattle.words.specs.Words.{bitAt}
 use Rattle.gte_registers.specs.Registers.{reg}
 use Rattle.gte.specs.Commands.{commandIn, sfOf}
 use Rattle.gte_laws.specs.Demand.{tolerance, Near, Goes}

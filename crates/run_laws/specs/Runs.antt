@@ -5,14 +5,14 @@ use mathlib.Core.Path.{_≡_}
 use Prim.Native.Nat.{ℕ, suc, _+_, _/_, _%_, _<_, _≤_}
 use lib.Dec.{eqb}
 use lib.ListN.{length, getD}
-use Rattle.delay.specs.State.{State}
-use Rattle.addresses.specs.Addresses.{ramLength}
+use Rattle.cpu_state.specs.State.{State}
+use Rattle.memory.specs.Addresses.{ramLength}
 use Rattle.image.specs.Image.{imageLength}
-use Rattle.formed.specs.Formed.{wellFormed}
+use Rattle.image.specs.Formed.{wellFormed}
 use Rattle.run.specs.Run.{Run, ran, onwards, runOf}
 use Rattle.fliskadee.specs.Find.{Answer}
 use Rattle.fliskadee.specs.Answer.{answerOf}
-use Rattle.admission.specs.Refusals.{mostSteps}
+use Rattle.image.specs.Refusals.{mostSteps}
 
 -- ---- on machines
 

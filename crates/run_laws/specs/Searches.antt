@@ -3,8 +3,8 @@ use mathlib.Core.Bool.{Bool, true, false}
 use mathlib.Core.Path.{_≡_}
 use Prim.Native.Nat.{ℕ, suc, _<_}
 use lib.Dec.{eqb}
-use Rattle.delay.specs.State.{State}
-use Rattle.processor.specs.Step.{stepOf}
+use Rattle.cpu_state.specs.State.{State}
+use Rattle.cpu_step.specs.Step.{stepOf}
 use Rattle.run.specs.Run.{ran, runOf}
 use Rattle.run.specs.Search.{risesOf, Search, searchOf}
 

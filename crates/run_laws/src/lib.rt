@@ -1,1 +1,2 @@
-// Theorems about runs: specs/ states them, proofs/ proves them, and there is no code.
+// Theorems about runs: demands 1 and 3, and the laws of 01 "The run and its numbers". specs/ states them, proofs/ proves them,
+// and there is no code.

@@ -8,32 +8,32 @@ use Rattle.gte_arithmetic.specs.Checks.{or, flags, flagWord}
 use Rattle.gte_arithmetic.specs.Values.{macOf, irOf, depthOf, screenOf, factorOf, quotient, ratioOf}
 use Rattle.gte_sums.specs.Sums.{rowOf, productOf}
 use Rattle.gte_line.specs.Line.{lineChecksAt, lineOf}
-use Rattle.gte_projection.specs.Projection.{farOf, vertexChecks, vertexOf}
+use Rattle.gte_perspective.specs.Projection.{farOf, vertexChecks, vertexOf}
 use Rattle.gte_perspective.specs.Perspective.{exactOf, pairOf, screenChecks, onScreen}
 use Rattle.gte_depth.specs.Depth.{windingOf, averageChecks, averageOf}
-use Rattle.gte_products.specs.Products.{squaresOf}
+use Rattle.gte_sums.specs.Products.{squaresOf}
 use Rattle.gte_registers.specs.Registers.{kinds, readOf, reads, short, half, field, fieldsOf, leadingFrom, leading, pushedXY, spreadFields, written, writeOf}
 use Rattle.gte_inputs.specs.Inputs.{matrixOf, vectorOf, longOf, cornerOf, inputsOf}
-use Rattle.gte_vertices.specs.Vertices.{rotated}
-use Rattle.gte_sqr_op.specs.SqrOp.{squareOf}
+use Rattle.gte_perspective.specs.Vertices.{rotated}
+use Rattle.gte_matrix.specs.SqrOp.{squareOf}
 use Rattle.gte.specs.Commands.{commands, leaves, outcomeOf, commandOf}
-use Rattle.gte_effects.specs.Effects.{stored, flagged, lineLeft}
-use Rattle.gte_vertex_effects.specs.VertexEffects.{pushedZ, pushedVertex, vertexKept, vertexLeft}
-use Rattle.gte_average_effects.specs.AverageEffects.{windingLeft, averageLeft}
+use Rattle.gte_results.specs.Effects.{stored, flagged, lineLeft}
+use Rattle.gte_results.specs.VertexEffects.{pushedZ, pushedVertex, vertexKept, vertexLeft}
+use Rattle.gte_results.specs.AverageEffects.{windingLeft, averageLeft}
 use Rattle.byte_order.specs.Bytes.{wordAt, bytesOf}
-use Rattle.decode.specs.Decode.{specials, primaries, decodeOf}
-use Rattle.owners.specs.Owners.{owners, ownerOf}
-use Rattle.alu.specs.Alu.{sumOf}
-use Rattle.addresses.specs.Addresses.{mapped, segmentOf, placeOf}
-use Rattle.loads.specs.Loads as M
-use Rattle.fields.specs.Fields as F
-use Rattle.isa.specs.Execute as I
-use Rattle.control.specs.System as C
-use Rattle.exceptions.specs.Exceptions as X
-use Rattle.effects.specs.Effects.{writeStep}
-use Rattle.traps.specs.Traps.{trapStep}
-use Rattle.perform.specs.Perform.{performOf}
-use Rattle.processor.specs.Step.{issueOf, stepOf}
+use Rattle.cpu_decode.specs.Decode.{specials, primaries, decodeOf}
+use Rattle.cpu_decode.specs.Owners.{owners, ownerOf}
+use Rattle.cpu_alu.specs.Alu.{sumOf}
+use Rattle.memory.specs.Addresses.{mapped, segmentOf, placeOf}
+use Rattle.memory.specs.Loads as M
+use Rattle.cpu_decode.specs.Fields as F
+use Rattle.cpu_execute.specs.Execute as I
+use Rattle.cpu_state.specs.System as C
+use Rattle.cpu_state.specs.Exceptions as X
+use Rattle.cpu_effects.specs.Effects.{writeStep}
+use Rattle.cpu_effects.specs.Traps.{trapStep}
+use Rattle.cpu_perform.specs.Perform.{performOf}
+use Rattle.cpu_step.specs.Step.{issueOf, stepOf}
 use Rattle.step_laws.specs.Figures.{Figure, figures}
 
 pub bench-figures : map (λ (f : Figure). f .got) figures ≡ map (λ (f : Figure). f .said) figures

@@ -9,41 +9,41 @@ use lib.Dec.{eqb}
 use lib.ListN.{length, getD, set, length-set}
 use borrow.Author.Tests.{eqb-false}
 use Rattle.tables.specs.Table.{_⇒_, lookup}
-use Rattle.mul_div.specs.declared.HiLo.{HiLo}
-use Rattle.addresses.specs.Addresses.{placeOf}
-use Rattle.loads.specs.Loads.{loadAlign, loadOf}
-use Rattle.stores.specs.Stores.{storeAlign, storeOf, ramAfter}
-use Rattle.loads.specs.declared.LoadKind.{LoadKind}
-use Rattle.loads.specs.declared.LoadKind.the-variants as K
-use Rattle.loads.specs.declared.Loaded.{Loaded}
-use Rattle.loads.specs.declared.Loaded.the-variants as L
-use Rattle.stores.specs.declared.Stored.{Stored}
-use Rattle.stores.specs.declared.Stored.the-variants as S
-use Rattle.stores.specs.declared.StoreKind.{StoreKind}
-use Rattle.stores.specs.declared.StoreKind.the-variants as W
-use Rattle.decode.specs.Decode.{decodeOf, rs, rt}
-use Rattle.owners.specs.Owners.{numberOf, ownerOf}
-use Rattle.fields.specs.Fields.{fieldsOf}
-use Rattle.isa.specs.Execute.{executeOf}
-use Rattle.isa.specs.declared.Effect.{Effect}
-use Rattle.isa.specs.declared.Effect.the-variants as E
+use Rattle.cpu_alu.specs.declared.mul_div.HiLo.{HiLo}
+use Rattle.memory.specs.Addresses.{placeOf}
+use Rattle.memory.specs.Loads.{loadAlign, loadOf}
+use Rattle.memory.specs.Stores.{storeAlign, storeOf, ramAfter}
+use Rattle.memory.specs.declared.loads.LoadKind.{LoadKind}
+use Rattle.memory.specs.declared.loads.LoadKind.the-variants as K
+use Rattle.memory.specs.declared.loads.Loaded.{Loaded}
+use Rattle.memory.specs.declared.loads.Loaded.the-variants as L
+use Rattle.memory.specs.declared.stores.Stored.{Stored}
+use Rattle.memory.specs.declared.stores.Stored.the-variants as S
+use Rattle.memory.specs.declared.stores.StoreKind.{StoreKind}
+use Rattle.memory.specs.declared.stores.StoreKind.the-variants as W
+use Rattle.cpu_decode.specs.Decode.{decodeOf, rs, rt}
+use Rattle.cpu_decode.specs.Owners.{numberOf, ownerOf}
+use Rattle.cpu_decode.specs.Fields.{fieldsOf}
+use Rattle.cpu_execute.specs.Execute.{executeOf}
+use Rattle.cpu_execute.specs.declared.Effect.{Effect}
+use Rattle.cpu_execute.specs.declared.Effect.the-variants as E
 use Rattle.gte_registers.specs.Registers.{reg, writeOf, WellFormed}
 use Rattle.gte.specs.Commands.{outcomeOf, commandOf}
 use Rattle.gte.specs.declared.Outcome.{Outcome}
 use Rattle.gte.specs.declared.Outcome.the-variants as O
 use Rattle.gte_laws.proofs.Formed.{write-formed, command-formed}
-use Rattle.control.specs.System.{userOf, usableOf, readSystemOf, withSr, withCause, writeSystemOf, restoredOf, none}
-use Rattle.exceptions.specs.Exceptions.{inSlot, raisedSystem, raisedOf, withBadAddress}
-use Rattle.control.specs.declared.Flow.{Flow}
-use Rattle.control.specs.declared.Pending.{Pending}
-use Rattle.control.specs.declared.System.{System}
-use Rattle.delay.specs.State.{State, state}
-use Rattle.delay.specs.Delay.{landed, landedUnless, withRegister, pendingOf, currentOf}
-use Rattle.effects.specs.Effects.{nextStep, writeStep, productStep, systemStep, waitStep}
-use Rattle.jumps.specs.Jumps.{jumpStep, linkStep}
-use Rattle.traps.specs.Traps.{trapStep, faultStep}
-use Rattle.perform.specs.Perform.{Tick, tick, geometryStep, loaded, afterLoad, loadStep, loadGeometryStep, afterStore, storeStep, performOf}
-use Rattle.processor.specs.Step.{afterCommand, commandStep, issueOf, afterFetch, stepOf}
+use Rattle.cpu_state.specs.System.{userOf, usableOf, readSystemOf, withSr, withCause, writeSystemOf, restoredOf, none}
+use Rattle.cpu_state.specs.Exceptions.{inSlot, raisedSystem, raisedOf, withBadAddress}
+use Rattle.cpu_state.specs.declared.control.Flow.{Flow}
+use Rattle.cpu_state.specs.declared.control.Pending.{Pending}
+use Rattle.cpu_state.specs.declared.control.System.{System}
+use Rattle.cpu_state.specs.State.{State, state}
+use Rattle.cpu_effects.specs.Delay.{landed, landedUnless, withRegister, pendingOf, currentOf}
+use Rattle.cpu_effects.specs.Effects.{nextStep, writeStep, productStep, systemStep, waitStep}
+use Rattle.cpu_effects.specs.Jumps.{jumpStep, linkStep}
+use Rattle.cpu_effects.specs.Traps.{trapStep, faultStep}
+use Rattle.cpu_perform.specs.Perform.{Tick, tick, geometryStep, loaded, afterLoad, loadStep, loadGeometryStep, afterStore, storeStep, performOf}
+use Rattle.cpu_step.specs.Step.{afterCommand, commandStep, issueOf, afterFetch, stepOf}
 use Rattle.step_laws.specs.Formed.{Only, RegistersFormed, PendingFormed, SystemFormed, StateFormed}
 use Rattle.step_laws.proofs.Masks.{masked, sr-low, cause-raised, cause-written}
 

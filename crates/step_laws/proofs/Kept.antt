@@ -6,36 +6,36 @@ use mathlib.Core.List.{List}
 use mathlib.Core.Path.{_≡_, refl, sym, ap, _∙_}
 use lib.ListN.{length, getD, take, drop, length-set}
 use lib.Seq.{length-sets}
-use Rattle.mul_div.specs.declared.HiLo.{HiLo}
+use Rattle.cpu_alu.specs.declared.mul_div.HiLo.{HiLo}
 use Rattle.byte_order.proofs.Rows.{length-setWords}
-use Rattle.addresses.specs.Addresses.{placeOf}
-use Rattle.stores.specs.Stores as M
-use Rattle.stores.specs.Stores.{storeAlign, storeOf, ramAfter}
-use Rattle.addresses.specs.declared.Place.{Place}
-use Rattle.addresses.specs.declared.Place.the-variants as P
-use Rattle.loads.specs.declared.LoadKind.the-variants as K
-use Rattle.loads.specs.declared.Loaded.{Loaded}
-use Rattle.loads.specs.declared.Loaded.the-variants as L
-use Rattle.stores.specs.declared.Stored.{Stored}
-use Rattle.stores.specs.declared.Stored.the-variants as S
-use Rattle.stores.specs.declared.StoreKind.{StoreKind}
-use Rattle.stores.specs.declared.StoreKind.the-variants as W
-use Rattle.owners.specs.Owners.{numberOf, ownerOf}
-use Rattle.isa.specs.declared.Effect.{Effect}
-use Rattle.isa.specs.declared.Effect.the-variants as E
+use Rattle.memory.specs.Addresses.{placeOf}
+use Rattle.memory.specs.Stores as M
+use Rattle.memory.specs.Stores.{storeAlign, storeOf, ramAfter}
+use Rattle.memory.specs.declared.addresses.Place.{Place}
+use Rattle.memory.specs.declared.addresses.Place.the-variants as P
+use Rattle.memory.specs.declared.loads.LoadKind.the-variants as K
+use Rattle.memory.specs.declared.loads.Loaded.{Loaded}
+use Rattle.memory.specs.declared.loads.Loaded.the-variants as L
+use Rattle.memory.specs.declared.stores.Stored.{Stored}
+use Rattle.memory.specs.declared.stores.Stored.the-variants as S
+use Rattle.memory.specs.declared.stores.StoreKind.{StoreKind}
+use Rattle.memory.specs.declared.stores.StoreKind.the-variants as W
+use Rattle.cpu_decode.specs.Owners.{numberOf, ownerOf}
+use Rattle.cpu_execute.specs.declared.Effect.{Effect}
+use Rattle.cpu_execute.specs.declared.Effect.the-variants as E
 use Rattle.gte_registers.specs.Registers.{reg, writeOf}
 use Rattle.gte.specs.Commands.{outcomeOf, commandOf}
 use Rattle.gte.specs.declared.Outcome.{Outcome}
 use Rattle.gte.specs.declared.Outcome.the-variants as O
-use Rattle.control.specs.System.{userOf, usableOf, readSystemOf, writeSystemOf, restoredOf}
-use Rattle.delay.specs.State.{State, state}
-use Rattle.delay.specs.Delay.{currentOf}
-use Rattle.effects.specs.Effects.{nextStep, writeStep, productStep, systemStep, waitStep}
-use Rattle.jumps.specs.Jumps.{jumpStep, linkStep}
-use Rattle.traps.specs.Traps.{trapStep, faultStep}
+use Rattle.cpu_state.specs.System.{userOf, usableOf, readSystemOf, writeSystemOf, restoredOf}
+use Rattle.cpu_state.specs.State.{State, state}
+use Rattle.cpu_effects.specs.Delay.{currentOf}
+use Rattle.cpu_effects.specs.Effects.{nextStep, writeStep, productStep, systemStep, waitStep}
+use Rattle.cpu_effects.specs.Jumps.{jumpStep, linkStep}
+use Rattle.cpu_effects.specs.Traps.{trapStep, faultStep}
 use Rattle.step_laws.proofs.Formed.{effectOf}
-use Rattle.perform.specs.Perform.{Tick, tick, geometryStep, loaded, afterLoad, loadStep, loadGeometryStep, afterStore, storeStep, performOf}
-use Rattle.processor.specs.Step.{afterCommand, commandStep, issueOf, afterFetch, stepOf}
+use Rattle.cpu_perform.specs.Perform.{Tick, tick, geometryStep, loaded, afterLoad, loadStep, loadGeometryStep, afterStore, storeStep, performOf}
+use Rattle.cpu_step.specs.Step.{afterCommand, commandStep, issueOf, afterFetch, stepOf}
 
 -- ---- the length of RAM
 written-long : (k : StoreKind) (m : List ℕ) (at x : ℕ) → length (M.writeOf k m at x) ≡ length m

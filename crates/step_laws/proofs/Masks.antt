@@ -7,7 +7,7 @@ use mathlib.Core.Path.{_≡_, refl, sym, ap, ap₂, _∙_}
 use lib.Arith.{bin-ind}
 use lib.Bits.{bitAnd, and-step, and-shr, and-mod, and-mask, and-block}
 use lib.Dec.{lit<}
-use Rattle.alu.specs.Modular.{bit}
+use Rattle.cpu_alu.specs.Modular.{bit}
 use Rattle.step_laws.specs.Formed.{Only}
 
 -- ---- a word of two parts

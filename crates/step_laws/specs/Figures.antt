@@ -6,10 +6,10 @@ use Rattle.gte_arithmetic.specs.Values.{ratioOf}
 use Rattle.gte_registers.specs.Registers.{reg, writeOf}
 use Rattle.gte.specs.Commands.{commandOf}
 use Rattle.byte_order.specs.Bytes.{bytesOf}
-use Rattle.control.specs.System.{none}
-use Rattle.control.specs.declared.Control.{Control}
-use Rattle.delay.specs.State.{State, state}
-use Rattle.processor.specs.Step.{stepOf}
+use Rattle.cpu_state.specs.System.{none}
+use Rattle.cpu_state.specs.declared.control.Control.{Control}
+use Rattle.cpu_state.specs.State.{State, state}
+use Rattle.cpu_step.specs.Step.{stepOf}
 
 abbrev pub zeros : ℕ → List ℕ
 zeros zero = []

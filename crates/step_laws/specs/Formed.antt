@@ -5,9 +5,9 @@ use Prim.Native.Nat.{ℕ, _≤_}
 use lib.Bits.{bitAnd}
 use lib.ListN.{length, getD}
 use Rattle.gte_registers.specs.Registers.{WellFormed}
-use Rattle.control.specs.declared.Pending.{Pending}
-use Rattle.control.specs.declared.System.{System}
-use Rattle.delay.specs.State.{State}
+use Rattle.cpu_state.specs.declared.control.Pending.{Pending}
+use Rattle.cpu_state.specs.declared.control.System.{System}
+use Rattle.cpu_state.specs.State.{State}
 
 -- x has only bits of m
 abbrev pub Only : ℕ → ℕ → Type 0

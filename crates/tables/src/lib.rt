@@ -1,1 +1,2 @@
-// Tables by number, for the definitions of other crates: specs/ has them, and there is no code.
+// Tables by number, for the definitions of other crates (instructions, registers, commands): specs/ has them, and there is no
+// code.

@@ -5,10 +5,10 @@ use mathlib.Core.Path.{_≡_, refl, sym, ap, _∙_}
 use native.Mathlib.Omega.{arith}
 use lib.Dec.{eqb, ltb, leb}
 use borrow.Author.Tests.{leb-true, leb-false, ltb-true, le-leb, lt-leb, lt-ltb}
-use Rattle.addresses.specs.Addresses.{ramLength, mapped, segmentOf, physicalOf}
-use Rattle.addresses.specs.declared.Phys.{Phys}
-use Rattle.addresses.specs.declared.Place.{Place}
-use Rattle.addresses.specs.declared.Place.the-variants.{At, Bus, Address}
+use Rattle.memory.specs.Addresses.{ramLength, mapped, segmentOf, physicalOf}
+use Rattle.memory.specs.declared.addresses.Phys.{Phys}
+use Rattle.memory.specs.declared.addresses.Place.{Place}
+use Rattle.memory.specs.declared.addresses.Place.the-variants.{At, Bus, Address}
 use Rattle.window.specs.Window.{nothing, partFrom, partAt, partOf, windowLength, InRam, AllInRam, WindowExact}
 use Rattle.window.specs.declared.Part.{Part}
 

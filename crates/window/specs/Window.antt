@@ -6,9 +6,9 @@ use mathlib.Core.Path.{_≡_}
 use Prim.Native.Nat.{ℕ, _+_, _-_, _%_, _<_}
 use lib.Dec.{leb}
 use lib.ListN.{length, take, drop}
-use Rattle.addresses.specs.Addresses.{ramLength, segmentOf, physicalOf}
-use Rattle.addresses.specs.declared.Place.{Place}
-use Rattle.addresses.specs.declared.Place.the-variants.{At, Bus, Address}
+use Rattle.memory.specs.Addresses.{ramLength, segmentOf, physicalOf}
+use Rattle.memory.specs.declared.addresses.Place.{Place}
+use Rattle.memory.specs.declared.addresses.Place.the-variants.{At, Bus, Address}
 use Rattle.window.specs.declared.Part.{Part}
 
 abbrev pub nothing : Part

@@ -1,12 +1,13 @@
-// The RAM window: from RAM, a virtual address and a length, that part of the lent RAM itself.
+// The RAM window: from RAM, a virtual address and a length, that part of the lent RAM itself. Carries the last paragraph of 01
+// "The run and its numbers".
 ghost use mathlib.Core.Path.{_≡_};
 ghost use Prim.Native.Nat.{_+_, _≤_};
 ghost use lib.ListN.{length};
 ghost use Rattle.window.specs.Window.{partFrom, windowAt, partOf, windowOf};
-use addresses::Place;
-use addresses::Virt;
-use addresses::ram_length;
-use addresses::translate;
+use memory::addresses::Place;
+use memory::addresses::Virt;
+use memory::addresses::ram_length;
+use memory::addresses::translate;
 
 // A part of RAM: where it begins, and how long it is.
 pub struct Part {

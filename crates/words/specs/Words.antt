@@ -1,6 +1,8 @@
 -- A word of 32 bits and the numbers that it and its parts stand for. A word is a natural below 2^32, a signed value an
 -- integer; `toZ w` reads w bits in two's complement, `ofZ w` gives the bits of a signed value.
+use mathlib.Core.Bool.{Bool}
 use Prim.Native.Nat.{ℕ, _/_, _%_, _^_}
+use lib.Dec.{eqb}
 use lib.IntN.{ℤ}
 use mir.Syntax.{Width, w16, w32}
 use mir.Val.{bits, toZ, ofZ}
@@ -19,3 +21,7 @@ signExtend w x = ofZ w32 (lowSigned w x)
 
 abbrev pub zeroExtend : Width → ℕ → ℕ
 zeroExtend w x = x % 2 ^ bits w
+
+-- bit b of a word is set
+abbrev pub bitAt : ℕ → ℕ → Bool
+bitAt b n = eqb (n / 2 ^ b % 2) 1

@@ -3,7 +3,7 @@ use native.Mathlib.Omega.{arith}
 use mathlib.Core.Path.{refl, sym, _∙_}
 use borrow.Author.Tests.{eq-eqb}
 use Rattle.fliskadee.specs.Find.{findOf}
-use Rattle.admission.proofs.Refusals.{passed, small}
+use Rattle.image.proofs.Refusals.{passed, small}
 use Rattle.fliskadee.proofs.Refused.{refused-is}
 use borrow.Author.Needs.{needs}
 use Rattle.fliskadee.proofs.run_with.Statement.{statement}

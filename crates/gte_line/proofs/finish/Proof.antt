@@ -7,7 +7,7 @@ use Rattle.integers.specs.Bound.{back}
 use Rattle.gte_arithmetic.specs.Checks.{or, flags}
 use Rattle.gte_arithmetic.specs.Values.{sumFlag}
 use Rattle.gte_line.specs.Line.{cellOf, lineOf, lineChecksAt}
-use Rattle.gte_values.specs.declared.Wide.{Wide}
+use Rattle.gte_arithmetic.specs.declared.values.Wide.{Wide}
 use Rattle.gte_arithmetic.proofs.Flags.{or-assoc, or-none}
 use Rattle.gte_line.proofs.finish.Statement.{statement}
 use Rattle.gte_line.proofs.finish.Tie as tie

@@ -5,7 +5,7 @@ use mathlib.Core.Bool.{true, false}
 use mathlib.Core.Path.{refl, sym, _∙_}
 use Prim.Native.Nat.{_-_}
 use Rattle.gte_registers.specs.Registers.{view}
-use Rattle.delay.specs.State.{state}
+use Rattle.cpu_state.specs.State.{state}
 use Rattle.run.proofs.Turns.{After, none, goes-on, over, stops, ends}
 use Rattle.run.proofs.run_until.Statement.{statement}
 use Rattle.run.proofs.run_until.Tie as tie

@@ -1,6 +1,6 @@
 -- The tests are the definition's, and a part that the definition gives lies in RAM.
 use borrow.Author.Needs.{needs}
-use Rattle.addresses.specs.declared.Phys.{Phys}
+use Rattle.memory.specs.declared.addresses.Phys.{Phys}
 use mathlib.Core.Path.{sym, ap, _∙_}
 use native.Mathlib.Omega.{arith}
 use Rattle.window.specs.Window.{partOf}

@@ -1,2 +1,0 @@
-pub mod Alu
-pub mod Modular

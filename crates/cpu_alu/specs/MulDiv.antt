@@ -1,0 +1,29 @@
+-- Multiplication and division of words (01 "One step"). a and b are words; `toZ w32` is the signed value of one.
+use mathlib.Core.Bool.{cond}
+use Prim.Native.Nat.{ℕ, _*_, _-_, _/_, _%_, _^_}
+use lib.Dec.{eqb}
+use lib.IntN.{pos, _*ℤ_}
+use lib.Signed.{ltZ, shrZ, quotZ, remZ}
+use mir.Syntax.{w32}
+use mir.Val.{toZ}
+use Rattle.integers.specs.Floor.{modZ}
+use Rattle.cpu_alu.specs.declared.mul_div.HiLo.{HiLo}
+
+-- MULT and MULTU: HI is the high and LO the low word of the 64-bit product
+unfoldable pub productOf : ℕ → ℕ → HiLo
+productOf a b = record { hi = modZ (shrZ (toZ w32 a *ℤ toZ w32 b) (2 ^ 32)) (2 ^ 32); lo = modZ (toZ w32 a *ℤ toZ w32 b) (2 ^ 32) }
+
+unfoldable pub unsignedProductOf : ℕ → ℕ → HiLo
+unsignedProductOf a b = record { hi = a * b / 2 ^ 32; lo = a * b % 2 ^ 32 }
+
+-- DIV truncates toward zero; by 0 HI is the dividend and LO -1, or 1 where the dividend is negative. 80000000h / -1 gives
+-- 80000000h and 0, which are the low words of the exact quotient and remainder.
+unfoldable pub quotientOf : ℕ → ℕ → HiLo
+quotientOf a b =
+    cond (eqb b 0)
+    (record { hi = a; lo = cond (ltZ (toZ w32 a) (pos 0)) 1 0xffff_ffff })
+    (record { hi = modZ (remZ (toZ w32 a) (toZ w32 b)) (2 ^ 32); lo = modZ (quotZ (toZ w32 a) (toZ w32 b)) (2 ^ 32) })
+
+-- DIVU; by 0 HI is the dividend and LO FFFFFFFFh
+unfoldable pub unsignedQuotientOf : ℕ → ℕ → HiLo
+unsignedQuotientOf a b = cond (eqb b 0) (record { hi = a; lo = 0xffff_ffff }) (record { hi = a % b; lo = a / b })

@@ -1,2 +1,0 @@
-pub mod Delay
-pub mod State

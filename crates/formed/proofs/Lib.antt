@@ -1,2 +1,0 @@
-mod Comparing
-pub mod Facts

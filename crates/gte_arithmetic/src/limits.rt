@@ -1,0 +1,123 @@
+// One function for each kind of limit. Each gives the limited value and the bit that it sets, which the caller names
+// where a command uses one kind for several registers.
+ghost use mathlib.Core.Path.{_≡_};
+ghost use Prim.Native.Nat.{_*_, _^_, _<_};
+ghost use lib.IntN.{pos, negsuc};
+ghost use lib.Signed.{shrZ};
+ghost use lib.Dec.{leb};
+ghost use Rattle.integers.specs.Clamp.{clamp, outside};
+ghost use Rattle.gte_arithmetic.specs.Checks.{raise};
+ghost use Rattle.gte_arithmetic.specs.Values.{lowest, irOf, colourOf, depthOf, screenOf, factorOf, ratioOf};
+
+// A value of 64 bits after a test, with the FLAG bits that the test sets.
+pub struct Limited {
+    pub v: i64,
+    pub flag: u32,
+}
+
+// A limited value of 16 signed bits (IR1..3, SX, SY) with its FLAG bit.
+pub struct Short {
+    pub v: i16,
+    pub flag: u32,
+}
+
+// A limited value that is never negative (colours, SZ3, OTZ, IR0, the quotient) with its FLAG bit.
+pub struct Level {
+    pub v: u32,
+    pub flag: u32,
+}
+
+// x limited to lo..hi, and the bit where that changes it.
+fn limit(lo: i64, hi: i64, x: i64, bit: u32) -> Limited
+    ensures { λ r. ⌜ r ≡ record { v = clamp lo hi x; flag = raise (outside lo hi x) bit } ⌝ }
+{
+    if x < lo {
+        Limited { v: lo, flag: bit }
+    } else if hi < x {
+        Limited { v: hi, flag: bit }
+    } else {
+        Limited { v: x, flag: 0 }
+    }
+}
+
+// The lower end of IR1..3, which lm raises to 0.
+pub fn lowest_ir(lm: bool) -> i64
+    ensures { λ r. ⌜ r ≡ lowest lm ⌝ }
+{
+    if lm { 0 } else { -0x8000 }
+}
+
+// IR1..3 from stored MAC.
+pub fn limit_ir(m: i32, lm: bool, bit: u32) -> Short
+    ensures { λ r. ⌜ r ≡ record { v = irOf lm m; flag = raise (outside (lowest lm) (pos 0x7fff) m) bit } ⌝ }
+{
+    let l = limit(lowest_ir(lm), 0x7fff, m as i64, bit);
+    Short {
+        v: l.v as i16,
+        flag: l.flag,
+    }
+}
+
+// A colour from stored MAC.
+pub fn limit_colour(m: i32, bit: u32) -> Level
+    ensures { λ r. ⌜ r ≡ record { v = colourOf m; flag = raise (outside (pos 0) (pos 0xff) (shrZ m 16)) bit } ⌝ }
+{
+    let l = limit(0, 0xff, (m as i64) >> 4, bit);
+    Level {
+        v: l.v as u32,
+        flag: l.flag,
+    }
+}
+
+// SZ3 and OTZ.
+pub fn limit_depth(z: i64) -> Level
+    ensures { λ r. ⌜ r ≡ record { v = depthOf z; flag = raise (outside (pos 0) (pos 0xffff) z) 0x4_0000 } ⌝ }
+{
+    let l = limit(0, 0xffff, z, 0x4_0000);
+    Level {
+        v: l.v as u32,
+        flag: l.flag,
+    }
+}
+
+// SX and SY.
+pub fn limit_screen(x: i64, bit: u32) -> Short
+    ensures { λ r. ⌜ r ≡ record { v = screenOf x; flag = raise (outside (negsuc 0x3ff) (pos 0x3ff) x) bit } ⌝ }
+{
+    let l = limit(-0x400, 0x3ff, x, bit);
+    Short {
+        v: l.v as i16,
+        flag: l.flag,
+    }
+}
+
+// IR0.
+pub fn limit_factor(x: i64) -> Level
+    ensures { λ r. ⌜ r ≡ record { v = factorOf x; flag = raise (outside (pos 0) (pos 0x1000) x) 0x1000 } ⌝ }
+{
+    let l = limit(0, 0x1000, x, 0x1000);
+    Level {
+        v: l.v as u32,
+        flag: l.flag,
+    }
+}
+
+// The perspective quotient. H is unsigned.
+pub fn divide(h: u32, sz: u32) -> Level
+    requires { ⌜ (h < 65536) × (sz < 65536) ⌝ }
+    ensures is { λ r. ⌜ r ≡ record { v = ratioOf h sz; flag = raise (leb (2 * sz) h) 0x2_0000 } ⌝ }
+    ensures small { λ r. ⌜ r .v < 2 ^ 17 ⌝ }
+{
+    if 2 * sz <= h {
+        Level {
+            v: 0x1_ffff,
+            flag: 0x2_0000,
+        }
+    } else {
+        let n = (h as u64) * 0x2_0000 / (sz as u64);
+        Level {
+            v: ((n + 1) / 2) as u32,
+            flag: 0,
+        }
+    }
+}

@@ -1,0 +1,3 @@
+pub mod LightsLines
+pub mod Normal
+pub mod CueingLines

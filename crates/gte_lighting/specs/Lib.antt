@@ -1,0 +1,3 @@
+pub mod NormalCueing
+pub mod NormalColours
+pub mod Normals

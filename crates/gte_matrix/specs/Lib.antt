@@ -1,0 +1,2 @@
+pub mod Multiply
+pub mod SqrOp

@@ -1,0 +1,125 @@
+// Lines 5 to 7 of one vertex: from the depth and two IR to the screen.
+ghost use mathlib.Core.Path.{_≡_};
+ghost use Prim.Native.Nat.{_*_, _^_, _<_};
+ghost use lib.IntN.{pos, negsuc};
+ghost use lib.Signed.{shrZ};
+ghost use Rattle.integers.specs.Wrap.{wrap};
+ghost use Rattle.integers.specs.Clamp.{outside};
+ghost use Rattle.gte_arithmetic.specs.Checks.{or, raise};
+ghost use Rattle.gte_arithmetic.specs.Values.{screenOf, factorOf, mac0Flag};
+ghost use Rattle.gte_perspective.specs.Perspective.{exactOf, pairOf, onScreen};
+use gte_arithmetic::limits::Short;
+use gte_arithmetic::limits::divide;
+use gte_arithmetic::limits::limit_factor;
+use gte_arithmetic::limits::limit_screen;
+use gte_arithmetic::mac::store_mac0;
+use gte_arithmetic::mac::within;
+use gte_arithmetic::values::Camera;
+use words::shifts::shift_12;
+use words::shifts::shift_16;
+use words::signed::to_bits;
+
+// What lines 5 to 7 give.
+pub struct Screen {
+    pub mac0: i32,
+    pub xy: u32,
+    pub ir0: u32,
+    pub flag: u32,
+}
+
+// What line 7 gives.
+struct Factor {
+    pub mac0: i32,
+    pub ir0: u32,
+    pub flag: u32,
+}
+
+// Two signed halves in one word.
+fn pair(x: i16, y: i16) -> u32
+    ensures { λ r. ⌜ r ≡ pairOf x y ⌝ }
+{
+    to_bits(x as i32) % 0x1_0000 + to_bits(y as i32) % 0x1_0000 * 0x1_0000
+}
+
+// The quotient times a factor, plus an offset.
+fn exact(q: u32, k: i16, b: i32) -> i64
+    requires { ⌜ q < 2 ^ 17 ⌝ }
+    ensures { λ r. ⌜ r ≡ exactOf q k b ⌝ }
+{
+    (q as i64) * (k as i64) + (b as i64)
+}
+
+// Line 5 or 6, with each of its tests: MAC0 is tested, and the coordinate limited from its exact value.
+fn coordinate_tested(x: i64, bit: u32) -> Short
+    ensures { λ r. ⌜ r ≡ record { v = screenOf (shrZ x 65536); flag = or (mac0Flag x) (raise (outside (negsuc 0x3ff) (pos 0x3ff) (shrZ x 65536)) bit) } ⌝ }
+{
+    let m = store_mac0(x);
+    let s = limit_screen(shift_16(x), bit);
+    Short {
+        v: s.v,
+        flag: m.flag | s.flag,
+    }
+}
+
+// Line 5 or 6. Most points lie on the screen, where one test finds that no bit is set.
+fn coordinate(q: u32, ir: i16, offset: i32, bit: u32) -> Short
+    requires { ⌜ q < 2 ^ 17 ⌝ }
+    ensures { λ r. ⌜ r ≡ record { v = screenOf (shrZ (exactOf q ir offset) 65536); flag = or (mac0Flag (exactOf q ir offset)) (raise (outside (negsuc 0x3ff) (pos 0x3ff) (shrZ (exactOf q ir offset) 65536)) bit) } ⌝ }
+{
+    let x = exact(q, ir, offset);
+    let s = shift_16(x);
+    if within(-0x400, 0x3ff, s) {
+        return Short {
+            v: s as i16,
+            flag: 0,
+        };
+    }
+    coordinate_tested(x, bit)
+}
+
+// Line 7, with each of its tests: the MAC0 that stays, and IR0.
+fn cue_factor_tested(x: i64) -> Factor
+    ensures { λ r. ⌜ r ≡ record { mac0 = wrap (2 ^ 31) x; ir0 = factorOf (shrZ x 4096); flag = or (mac0Flag x) (raise (outside (pos 0) (pos 0x1000) (shrZ x 4096)) 0x1000) } ⌝ }
+{
+    let m = store_mac0(x);
+    let f = limit_factor(shift_12(x));
+    Factor {
+        mac0: m.v,
+        ir0: f.v,
+        flag: m.flag | f.flag,
+    }
+}
+
+// Line 7. An IR0 in range comes from a MAC0 that needs no test.
+fn cue_factor(q: u32, dqa: i16, dqb: i32) -> Factor
+    requires { ⌜ q < 2 ^ 17 ⌝ }
+    ensures { λ r. ⌜ r ≡ record { mac0 = wrap (2 ^ 31) (exactOf q dqa dqb); ir0 = factorOf (shrZ (exactOf q dqa dqb) 4096); flag = or (mac0Flag (exactOf q dqa dqb)) (raise (outside (pos 0) (pos 0x1000) (shrZ (exactOf q dqa dqb) 4096)) 0x1000) } ⌝ }
+{
+    let x = exact(q, dqa, dqb);
+    let f = shift_12(x);
+    if within(0, 0x1000, f) {
+        return Factor {
+            mac0: x as i32,
+            ir0: f as u32,
+            flag: 0,
+        };
+    }
+    cue_factor_tested(x)
+}
+
+// Lines 5 to 7.
+pub fn to_screen(k: Camera, sz: u32, ir1: i16, ir2: i16) -> Screen
+    requires { ⌜ (k .h < 65536) × (sz < 65536) ⌝ }
+    ensures { λ r. ⌜ r ≡ onScreen k sz ir1 ir2 ⌝ }
+{
+    let q = divide(k.h, sz);
+    let x = coordinate(q.v, ir1, k.ofx, 0x4000);
+    let y = coordinate(q.v, ir2, k.ofy, 0x2000);
+    let d = cue_factor(q.v, k.dqa, k.dqb);
+    Screen {
+        mac0: d.mac0,
+        xy: pair(x.v, y.v),
+        ir0: d.ir0,
+        flag: q.flag | (x.flag | (y.flag | d.flag)),
+    }
+}

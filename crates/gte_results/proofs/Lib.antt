@@ -1,0 +1,4 @@
+mod LinesViews
+mod VerticesViews
+mod ShadesViews
+pub mod AveragesViews

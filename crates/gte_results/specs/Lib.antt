@@ -1,0 +1,4 @@
+pub mod Effects
+pub mod VertexEffects
+pub mod ShadeEffects
+pub mod AverageEffects

@@ -1,0 +1,3 @@
+pub mod Places
+mod StoresAligned
+mod LoadsAligned

@@ -1,0 +1,130 @@
+-- A place that an address has lies in RAM and keeps the address's alignment, and RAM has room for what stands there.
+use Prim.Native.Nat.{ℕ, suc, _+_, _*_, _/_, _%_, _<_, _≤_}
+use mathlib.Core.Bool.{Bool, true, false, cond, _&&_, and-eq-true-iff}
+use mathlib.Core.List.{List}
+use mathlib.Core.Path.{_≡_, refl, sym, _∙_}
+use native.Mathlib.Omega.{arith}
+use lib.Dec.{eqb, ltb, leb}
+use lib.ListN.{length}
+use borrow.Author.Tests.{eqb-true, eqb-false, ltb-true, leb-true, eq-eqb, lt-ltb}
+use Rattle.memory.specs.Addresses.{ramLength, RamOk, mapped, segmentOf, placeOf}
+use Rattle.memory.specs.declared.addresses.Phys.{Phys}
+use Rattle.memory.specs.declared.addresses.Place.{Place}
+use Rattle.memory.specs.declared.addresses.Place.the-variants.{At, Bus, Address}
+
+-- ---- a test either way
+either : {A : Type 0} (P : A → Type 0) (b : Bool) (x y : A) → (b ≡ true → P x) → (b ≡ false → P y) → P (cond b x y)
+either P true x y f g = f refl
+either P false x y f g = g refl
+
+-- ---- the alignment of an address is that of its low 29 bits
+abbrev pub Keeps : ℕ → Type 0
+Keeps align = (a : ℕ) → a % align ≡ 0 → a % 0x2000_0000 % align ≡ 0
+
+pub keeps-1 : Keeps 1
+keeps-1 a h = omega arith
+
+pub keeps-2 : Keeps 2
+keeps-2 a h = omega arith
+
+pub keeps-4 : Keeps 4
+keeps-4 a h = omega arith
+
+-- ---- the place that an address has: the low 29 bits, below the length, of an aligned address
+abbrev Every : (ℕ → Type 0) → Place → Type 0
+Every P (At p) = P (p .0)
+Every P Bus = Unit
+Every P Address = Unit
+
+in-segment : (P : ℕ → Type 0) (a len : ℕ) → (a % 0x2000_0000 < len → P (a % 0x2000_0000)) → Every P (segmentOf a len)
+unfolding segmentOf
+in-segment P a len f = either (Every P) (mapped a && ltb (a % 0x2000_0000) len) _ _ (λ e. f (ltb-true _ len (and-eq-true-iff (mapped a) _ .0 e .1))) (λ e. tt)
+
+in-place : (P : ℕ → Type 0) (a align : ℕ) (user : Bool) (len : ℕ) → (a % align ≡ 0 → a % 0x2000_0000 < len → P (a % 0x2000_0000)) → Every P (placeOf a align user len)
+unfolding placeOf
+in-place P a align user len f =
+    either (Every P) (eqb (a % align) 0) _ _
+    (λ e. either (Every P) (user && leb 0x8000_0000 a) _ _ (λ u. tt) (λ u. in-segment P a len (f (eqb-true _ 0 e))))
+    (λ e. tt)
+
+pub below : (a align : ℕ) (user : Bool) (len : ℕ) (p : Phys) → placeOf a align user len ≡ At p → p .0 < len
+below a align user len p e = rw e at (in-place (λ q. q < len) a align user len (λ m h. h))
+
+pub aligned : (a align : ℕ) (user : Bool) (len : ℕ) (p : Phys) → Keeps align → placeOf a align user len ≡ At p → p .0 % align ≡ 0
+aligned a align user len p k e = rw e at (in-place (λ q. q % align ≡ 0) a align user len (λ m h. k a m))
+
+-- ---- room in RAM
+words-of : (m : List ℕ) → RamOk m → length m % 4 ≡ 0
+unfolding ramLength
+words-of m ok = eqb-true _ 0 (and-eq-true-iff _ _ .0 ok .0)
+
+pub room-word-of : (m : List ℕ) (at : ℕ) → RamOk m → at < length m → at / 4 * 4 + 4 ≤ length m
+room-word-of m at ok h = let w = words-of m ok in omega arith
+
+pub room-word : (m : List ℕ) (at : ℕ) → RamOk m → at < length m → at % 4 ≡ 0 → at + 4 ≤ length m
+room-word m at ok h e = let w = words-of m ok in omega arith
+
+pub room-half : (m : List ℕ) (at : ℕ) → RamOk m → at < length m → at % 2 ≡ 0 → at + 2 ≤ length m
+room-half m at ok h e = let w = words-of m ok in omega arith
+
+-- ---- the places in a word
+pub last-of-four : (n : ℕ) → n < 4 → (n ≡ 0 → ⊥) → (n ≡ 1 → ⊥) → (n ≡ 2 → ⊥) → n ≡ 3
+last-of-four n h a b c = omega arith
+
+-- code adds literals, lists count by `suc`
+pub at-2 : (a : ℕ) → a + 2 ≡ suc (suc a)
+at-2 a = omega arith
+
+-- ---- one number that is a word's place in RAM, or above every length of RAM
+abbrev pub index : ℕ → ℕ
+index a = a % 0x8000_0000 / 4 + a % 0x8000_0000 % 4 * 0x4000_0000
+
+pub short : (len : ℕ) → ramLength len ≡ true → len ≤ 2097152
+unfolding ramLength
+short len ok = leb-true len 2097152 (and-eq-true-iff (leb 4 len) _ .0 (and-eq-true-iff (eqb (len % 4) 0) _ .0 ok .1) .1)
+
+in-kernel : (a : ℕ) (zero : Bool) → eqb (a / 0x2000_0000) 0 ≡ zero → a < 0x1_0000_0000 → a / 0x2000_0000 % 4 ≡ 0 → mapped a ≡ true
+unfolding mapped
+in-kernel a true e l h = rw e
+in-kernel a false e l h =
+    let n = eqb-false (a / 0x2000_0000) 0 e in
+    let four : a / 0x2000_0000 ≡ 4 = omega arith in
+    rw four
+
+whole : (x n : ℕ) → x / 4 + x % 4 * 0x4000_0000 < n / 4 → n ≤ 2097152 → x % 4 ≡ 0
+whole x n h l = omega arith
+
+inside : (x n : ℕ) → x / 4 + x % 4 * 0x4000_0000 < n / 4 → x % 4 ≡ 0 → x < n
+inside x n h d = omega arith
+
+back : (x : ℕ) → x % 4 ≡ 0 → (x / 4 + x % 4 * 0x4000_0000) * 4 ≡ x
+back x d = omega arith
+
+by-four : (a : ℕ) → a % 0x8000_0000 % 4 ≡ 0 → a % 4 ≡ 0
+by-four a d = omega arith
+
+top : (a : ℕ) → a % 0x8000_0000 < 2097152 → a / 0x2000_0000 % 4 ≡ 0
+top a l = omega arith
+
+low : (a : ℕ) → a % 0x8000_0000 < 2097152 → a % 0x2000_0000 ≡ a % 0x8000_0000
+low a l = omega arith
+
+less : (x n k : ℕ) → x < n → n ≤ k → x < k
+less x n k h l = omega arith
+
+pub direct : (len a : ℕ) → ramLength len ≡ true → a < 0x1_0000_0000 → index a < len / 4 → placeOf a 4 false len ≡ At (record { 0 = index a * 4 })
+unfolding placeOf segmentOf
+direct len a ok l h =
+    let n = short len ok in
+    let d = whole (a % 0x8000_0000) len h n in
+    let i = inside (a % 0x8000_0000) len h d in
+    let u = less (a % 0x8000_0000) len 2097152 i n in
+    rw (eq-eqb _ _ (by-four a d), in-kernel a (eqb (a / 0x2000_0000) 0) refl l (top a u), low a u, lt-ltb _ _ i, back (a % 0x8000_0000) d)
+
+-- an answer of the test that is a place is the place
+found-by : (b : Bool) (q : Place) (p : Phys) → cond b q Bus ≡ At p → q ≡ At p
+found-by true q p e = e
+found-by false q p e = let z : _≡_ {A = ℕ} 0 1 = cc in absurd (omega arith)
+
+pub found : (a len : ℕ) (p : Phys) (r : Place) → r ≡ cond (ltb (index a) (len / 4)) (placeOf a 4 false len) Bus → r ≡ At p → placeOf a 4 false len ≡ At p
+found a len p r e h = found-by (ltb (index a) (len / 4)) (placeOf a 4 false len) p (sym e ∙ h)

@@ -1,0 +1,35 @@
+-- Addresses (01 "Addresses"). A virtual address and a physical one are separate kinds; only the segment translation turns
+-- one into the other.
+use mathlib.Core.Bool.{Bool, true, false, cond, _&&_, _||_}
+use mathlib.Core.List.{List}
+use mathlib.Core.Path.{_≡_}
+use Prim.Native.Nat.{ℕ, _*_, _/_, _%_, _≤_}
+use lib.Dec.{eqb, ltb, leb}
+use lib.ListN.{length}
+use Rattle.memory.specs.declared.addresses.Phys.{Phys}
+use Rattle.memory.specs.declared.addresses.Place.{Place}
+use Rattle.memory.specs.declared.addresses.Place.the-variants.{At, Bus, Address}
+
+-- a RAM length that is run: a multiple of 4 in 4..2,097,152
+unfoldable pub ramLength : ℕ → Bool
+ramLength n = eqb (n % 4) 0 && (leb 4 n && leb n 2097152)
+
+-- the same of lent RAM, as a fact
+abbrev pub RamOk : List ℕ → Type 0
+RamOk m = ramLength (length m) ≡ true
+
+-- top three bits 000, 100 and 101
+unfoldable pub mapped : ℕ → Bool
+mapped a = eqb (a / 0x2000_0000) 0 || (eqb (a / 0x2000_0000) 4 || eqb (a / 0x2000_0000) 5)
+
+-- the physical address is the low 29 bits
+abbrev pub physicalOf : ℕ → Phys
+physicalOf a = record { 0 = a % 0x2000_0000 }
+
+-- in RAM of a length, or a bus error
+unfoldable pub segmentOf : ℕ → ℕ → Place
+segmentOf a len = cond (mapped a && ltb (a % 0x2000_0000) len) (At (physicalOf a)) Bus
+
+-- with KUc = 1 an address with bit 31 set is an address error, and so is one that is not aligned; both before the bus
+unfoldable pub placeOf : ℕ → ℕ → Bool → ℕ → Place
+placeOf a align user len = cond (eqb (a % align) 0) (cond (user && leb 0x8000_0000 a) Address (segmentOf a len)) Address
