@@ -1,8 +1,8 @@
 /* Fliskadee: a software R3000A with its geometry unit (GTE), proved to do what its papers say.
  *
- * Link target/staticlib/libfliskadee.a, which "rt staticlib fliskadee" makes. The library keeps no state of its own, allocates
- * nothing and calls nothing: everything is in the buffers that the caller lends. Calls on different buffers may run at the same
- * time.
+ * Link target/staticlib/libfliskadee.a, which "rt staticlib fliskadee" makes: one ELF object for x86-64. The library keeps no state
+ * of its own, allocates nothing, and calls memcpy and nothing else: everything is in the buffers that the caller lends. Calls on
+ * different buffers may run at the same time.
  *
  * What the caller must see to: a buffer has the length that is passed, may be read and (unless it is const) written, and no
  * two buffers of one call overlap. Nothing else is required: every content, every length and every count is answered. */
@@ -50,13 +50,18 @@ enum fliskadee_code {
 #define FLISKADEE_MOST_STEPS 1000000
 
 /* Carries out at most count steps of the machine that image and RAM describe, and leaves both as they are afterwards.
- * Codes 1 to 4 are tested in this order. An exception is a completed step. Count 0 answers 0 and changes nothing.
- * An image that a call has left is accepted by the next call; a steps and then b steps leave what a + b steps leave. */
+ * Codes 1 to 4 are tested in this order. An exception is a completed step. Where none of them applies, count 0 answers 0 and changes
+ * nothing.
+ *
+ * An accepted image (one that codes 1 and 2 do not refuse) is accepted again as the call has left it, and RAM keeps its length.
+ * Where a call with count a is not refused and a + b is at most 1,000,000, a call with count b on what it left leaves what one call
+ * with count a + b would have left; the steps of the two add up, and the code of the whole is 5 where the first one's is, else the
+ * second one's. */
 uint64_t fliskadee_run(uint8_t *image, size_t image_length, uint8_t *ram, size_t ram_length, uint64_t count);
 
 /* As fliskadee_run, but ends after the first step that leaves a bit of mask set in FLAG (COP2 register 63) where none of the
  * mask's bits was set before that step: the code is then 16, and the step is counted. To have the machine just before that
- * step, run one step fewer from the same start. */
+ * step, run one step fewer from the same start. An accepted image is accepted again as the call has left it. */
 uint64_t fliskadee_find_flag(uint8_t *image, size_t image_length, uint8_t *ram, size_t ram_length, uint64_t count, uint32_t mask);
 
 /* The RAM window: which part of the lent RAM a virtual address and a length name. The answer is the place of the part's first

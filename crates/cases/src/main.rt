@@ -9,6 +9,7 @@
 //                                                   h  the count's high word                     high word, low word
 //   r  a word of the image, and what it is to be    q  an address in RAM, and what its word is to be
 //   k  the last run or search has changed no byte of image and RAM
+//   p  a window as bytes: the address, the length; it answers the length, and the last byte by 256 plus the first
 ghost use Prim.Native.Nat.{_<_};
 use gte::Outcome;
 
@@ -221,6 +222,29 @@ fn window(ram: &[u8], ram_length: usize, address: u32, n: u32) -> u64 {
     fliskadee::fliskadee_window(&ram[0..ram_length], address, n as u64)
 }
 
+// What a part of RAM holds: its length, its last byte and its first; 0 where it is empty.
+fn ends(part: &[u8]) -> u64 {
+    let n = part.len();
+    if n == 0 {
+        return 0;
+    }
+    let last = wide(part[n - 1]) as u64;
+    let first = wide(part[0]) as u64;
+    (n % 0x100_0000) as u64 * 0x1_0000_0000 + last * 0x100 + first
+}
+
+// The window as the part of RAM itself, which no call from C can return.
+fn part(ram: &[u8], ram_length: usize, address: u32, n: u32) -> u64 {
+    if ram.len() < ram_length {
+        return 0xffff_ffff_ffff_ffff;
+    }
+    ends(window::window(
+        &ram[0..ram_length],
+        memory::addresses::Virt(address),
+        n as usize,
+    ))
+}
+
 // A command is carried out: 0, or 1 where it is not listed.
 fn outcome(g: &mut [u32; 64], word: u32) -> u64 {
     match gte::command(g, word) {
@@ -323,6 +347,7 @@ fn follow(
             find(image, ram, x.image_length, x.ram_length, join(x.high, a), b),
         ),
         b'v' => with_answer(x, window(ram, x.ram_length, a, b)),
+        b'p' => with_answer(x, part(ram, x.ram_length, a, b)),
         b'c' => {
             let t = x.tally;
             counted(x, compare(t, a, outcome(g, a), b as u64))

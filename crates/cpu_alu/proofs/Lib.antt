@@ -1,3 +1,3 @@
 pub mod Operands
 pub mod Words
-mod Quotient
+pub mod Quotient

@@ -1,5 +1,6 @@
 -- Multiplication and division of words (01 "One step"). a and b are words; `toZ w32` is the signed value of one.
 use mathlib.Core.Bool.{cond}
+use mathlib.Core.Path.{_≡_}
 use Prim.Native.Nat.{ℕ, _*_, _-_, _/_, _%_, _^_}
 use lib.Dec.{eqb}
 use lib.IntN.{pos, _*ℤ_}
@@ -16,8 +17,7 @@ productOf a b = record { hi = modZ (shrZ (toZ w32 a *ℤ toZ w32 b) (2 ^ 32)) (2
 unfoldable pub unsignedProductOf : ℕ → ℕ → HiLo
 unsignedProductOf a b = record { hi = a * b / 2 ^ 32; lo = a * b % 2 ^ 32 }
 
--- DIV truncates toward zero; by 0 HI is the dividend and LO -1, or 1 where the dividend is negative. 80000000h / -1 gives
--- 80000000h and 0, which are the low words of the exact quotient and remainder.
+-- DIV truncates toward zero; by 0 HI is the dividend and LO -1, or 1 where the dividend is negative
 unfoldable pub quotientOf : ℕ → ℕ → HiLo
 quotientOf a b =
     cond (eqb b 0)
@@ -27,3 +27,7 @@ quotientOf a b =
 -- DIVU; by 0 HI is the dividend and LO FFFFFFFFh
 unfoldable pub unsignedQuotientOf : ℕ → ℕ → HiLo
 unsignedQuotientOf a b = cond (eqb b 0) (record { hi = a; lo = 0xffff_ffff }) (record { hi = a % b; lo = a / b })
+
+-- "80000000h / −1: LO = 80000000h, HI = 0", the low words of the exact quotient and remainder
+abbrev pub LeastByMinusOne : Type 0
+LeastByMinusOne = quotientOf 0x8000_0000 0xffff_ffff ≡ record { hi = 0; lo = 0x8000_0000 }

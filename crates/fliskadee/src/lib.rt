@@ -5,7 +5,8 @@ ghost use lib.ListN.{length};
 ghost use Rattle.window.specs.Window.{windowAt, windowLength};
 ghost use Rattle.fliskadee.specs.Find.{answer, findOf};
 ghost use Rattle.fliskadee.specs.Answer.{answerOf};
-use image::admission::admit;
+use image::admission::read_image;
+use image::admission::refusal;
 use image::bytes::write_image;
 use memory::addresses::Virt;
 use run::run_until;
@@ -15,9 +16,10 @@ use window::part_of;
 fn run_with(image: &mut [u8], ram: &mut [u8], count: u64, mask: u32) -> u64
     ensures { λ n. ⌜ answer n (now (image .exit)) (now (ram .exit)) ≡ findOf (now (image .entry)) (now (ram .entry)) count mask ⌝ }
 {
-    let a = admit(image, ram.len(), count);
-    if a.code != 0 {
-        return a.code * 0x10_0000;
+    let a = read_image(image);
+    let code = refusal(a.code, ram.len(), count);
+    if code != 0 {
+        return code * 0x10_0000;
     }
     let first = a.control;
     let mut r = a.registers;

@@ -209,21 +209,11 @@ and-bit b x y =
     ap (λ (n : ℕ). eqb (n % 2) 1) (and-shr x y b) ∙ ap (λ (n : ℕ). eqb n 1) (and-odd (x / 2 ^ b) (y / 2 ^ b))
     ∙ digit-and (x / 2 ^ b % 2) (y / 2 ^ b % 2) (omega arith) (omega arith)
 
-and-true : (s t : Bool) → t ≡ true → (s && t) ≡ s
-and-true true t e = e
-and-true false t e = refl
-
--- bits 30..12 of register 63 are those that were written
-pub flag-word-bit : (f b : ℕ) → bitAt b 0x7fff_f000 ≡ true → bitAt b (flagWord f) ≡ bitAt b f
+-- every bit of register 63 but bit 31 is that of what was written, under the mask of bits 30..12
+pub flag-word-bit : (f b : ℕ) → (31 ≡ b → ⊥) → bitAt b (flagWord f) ≡ (bitAt b f && bitAt b 0x7fff_f000)
 unfolding flagWord
-flag-word-bit f b e = go (eqb (bitAnd f counted) 0) ∙ and-bit b f 0x7fff_f000 ∙ and-true (bitAt b f) (bitAt b 0x7fff_f000) e
+flag-word-bit f b other = go (eqb (bitAnd f counted) 0) ∙ and-bit b f 0x7fff_f000
   where
-    other : 31 ≡ b → ⊥
-    other k = clash (subst (λ (x : ℕ). bitAt x 0x7fff_f000 ≡ true) (sym k) e)
-      where
-        clash : _≡_ {A = Bool} false true → ⊥
-        clash z = let y : _≡_ {A = ℕ} 0 1 = cc in omega arith
-
     top : (x : ℕ) → x ≤ 0x7fff_f000 → bitAt b (0x8000_0000 + x) ≡ bitAt b x
     top x l =
         ap (bitAt b) (sym (or-shifted 1 31 x (omega arith))) ∙ or-at b (2 ^ 31) x

@@ -2,12 +2,10 @@
 // where a command uses one kind for several registers.
 ghost use mathlib.Core.Path.{_≡_};
 ghost use Prim.Native.Nat.{_*_, _^_, _<_};
-ghost use lib.IntN.{pos, negsuc};
-ghost use lib.Signed.{shrZ};
 ghost use lib.Dec.{leb};
 ghost use Rattle.integers.specs.Clamp.{clamp, outside};
 ghost use Rattle.gte_arithmetic.specs.Checks.{raise};
-ghost use Rattle.gte_arithmetic.specs.Values.{lowest, irOf, colourOf, depthOf, screenOf, factorOf, ratioOf};
+ghost use Rattle.gte_arithmetic.specs.Values.{lowest, irRange, colourRange, depthRange, screenRange, factorRange, limitFlag, irOf, sixteenth, colourOf, depthOf, screenOf, factorOf, ratioOf};
 
 // A value of 64 bits after a test, with the FLAG bits that the test sets.
 pub struct Limited {
@@ -49,7 +47,7 @@ pub fn lowest_ir(lm: bool) -> i64
 
 // IR1..3 from stored MAC.
 pub fn limit_ir(m: i32, lm: bool, bit: u32) -> Short
-    ensures { λ r. ⌜ r ≡ record { v = irOf lm m; flag = raise (outside (lowest lm) (pos 0x7fff) m) bit } ⌝ }
+    ensures { λ r. ⌜ r ≡ record { v = irOf lm m; flag = limitFlag (irRange lm) m bit } ⌝ }
 {
     let l = limit(lowest_ir(lm), 0x7fff, m as i64, bit);
     Short {
@@ -60,7 +58,7 @@ pub fn limit_ir(m: i32, lm: bool, bit: u32) -> Short
 
 // A colour from stored MAC.
 pub fn limit_colour(m: i32, bit: u32) -> Level
-    ensures { λ r. ⌜ r ≡ record { v = colourOf m; flag = raise (outside (pos 0) (pos 0xff) (shrZ m 16)) bit } ⌝ }
+    ensures { λ r. ⌜ r ≡ record { v = colourOf m; flag = limitFlag colourRange (sixteenth m) bit } ⌝ }
 {
     let l = limit(0, 0xff, (m as i64) >> 4, bit);
     Level {
@@ -71,7 +69,7 @@ pub fn limit_colour(m: i32, bit: u32) -> Level
 
 // SZ3 and OTZ.
 pub fn limit_depth(z: i64) -> Level
-    ensures { λ r. ⌜ r ≡ record { v = depthOf z; flag = raise (outside (pos 0) (pos 0xffff) z) 0x4_0000 } ⌝ }
+    ensures { λ r. ⌜ r ≡ record { v = depthOf z; flag = limitFlag depthRange z 0x4_0000 } ⌝ }
 {
     let l = limit(0, 0xffff, z, 0x4_0000);
     Level {
@@ -82,7 +80,7 @@ pub fn limit_depth(z: i64) -> Level
 
 // SX and SY.
 pub fn limit_screen(x: i64, bit: u32) -> Short
-    ensures { λ r. ⌜ r ≡ record { v = screenOf x; flag = raise (outside (negsuc 0x3ff) (pos 0x3ff) x) bit } ⌝ }
+    ensures { λ r. ⌜ r ≡ record { v = screenOf x; flag = limitFlag screenRange x bit } ⌝ }
 {
     let l = limit(-0x400, 0x3ff, x, bit);
     Short {
@@ -93,7 +91,7 @@ pub fn limit_screen(x: i64, bit: u32) -> Short
 
 // IR0.
 pub fn limit_factor(x: i64) -> Level
-    ensures { λ r. ⌜ r ≡ record { v = factorOf x; flag = raise (outside (pos 0) (pos 0x1000) x) 0x1000 } ⌝ }
+    ensures { λ r. ⌜ r ≡ record { v = factorOf x; flag = limitFlag factorRange x 0x1000 } ⌝ }
 {
     let l = limit(0, 0x1000, x, 0x1000);
     Level {

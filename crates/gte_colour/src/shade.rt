@@ -2,11 +2,9 @@
 ghost use mathlib.Core.Path.{_≡_};
 ghost use Prim.Native.Nat.{_*_, _^_, _≤_};
 ghost use lib.IntN.{pos, _+ℤ_, _-ℤ_, _*ℤ_};
-ghost use lib.Signed.{shrZ};
 ghost use Rattle.integers.specs.Parts.{Mag};
-ghost use Rattle.integers.specs.Clamp.{outside};
-ghost use Rattle.gte_arithmetic.specs.Checks.{or, raise};
-ghost use Rattle.gte_arithmetic.specs.Values.{macOf, irOf, colourOf};
+ghost use Rattle.gte_arithmetic.specs.Checks.{or};
+ghost use Rattle.gte_arithmetic.specs.Values.{colourRange, limitFlag, macOf, irOf, sixteenth, colourOf};
 ghost use Rattle.gte_sums.specs.Sums.{Bounded};
 ghost use Rattle.gte_line.specs.Line.{cellOf};
 ghost use Rattle.gte_colour.specs.Shade.{farther, mixedOf, colourWord, shadeOf};
@@ -78,7 +76,7 @@ pub(crate) fn mix(s: Wide, fc: Long, f: i16, sf: bool) -> Mixed
 
 fn channel_of(x: i64, sf: bool, lm: bool, over: u32, under: u32, bit: u32, cut: u32) -> Channel
     requires { ⌜ Mag x (3 * 2 ^ 43) ⌝ }
-    ensures is { λ r. ⌜ r ≡ record { mac = macOf sf x; ir = irOf lm (macOf sf x); colour = colourOf (macOf sf x); flag = or (cellOf sf lm over under bit x .flag) (raise (outside (pos 0) (pos 0xff) (shrZ (macOf sf x) 16)) cut) } ⌝ }
+    ensures is { λ r. ⌜ r ≡ record { mac = macOf sf x; ir = irOf lm (macOf sf x); colour = colourOf (macOf sf x); flag = or (cellOf sf lm over under bit x .flag) (limitFlag colourRange (sixteenth (macOf sf x)) cut) } ⌝ }
     ensures small { λ r. ⌜ r .colour ≤ 255 ⌝ }
 {
     let m = finish_one(x, sf, lm, over, under, bit);

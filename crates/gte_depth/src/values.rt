@@ -1,6 +1,6 @@
 // Normal clipping, and the average of depths.
 ghost use mathlib.Core.Path.{_≡_};
-ghost use Prim.Native.Nat.{_*_, _^_, _<_};
+ghost use Prim.Native.Nat.{_*_, _^_};
 ghost use lib.IntN.{_+ℤ_, _-ℤ_, _*ℤ_};
 ghost use Rattle.integers.specs.Wrap.{wrap};
 ghost use Rattle.gte_arithmetic.specs.Values.{mac0Flag};
@@ -29,7 +29,6 @@ pub fn winding(a: Corner, b: Corner, c: Corner) -> Stored
 
 // AVSZ3 and AVSZ4: a scale factor times the sum of three or four depths.
 pub fn average_depth(zsf: i16, total: u32) -> Average
-    requires { ⌜ total < 2 ^ 18 ⌝ }
     ensures { λ r. ⌜ r ≡ averageOf zsf total ⌝ }
 {
     let x = (zsf as i64) * (total as i64);

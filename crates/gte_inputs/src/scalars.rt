@@ -1,6 +1,6 @@
 // What commands read of the registers: IR0, the depths and their factors.
 ghost use mathlib.Core.Path.{_≡_};
-ghost use Prim.Native.Nat.{_+_, _<_, _^_};
+ghost use Prim.Native.Nat.{_+_};
 ghost use Rattle.gte_inputs.specs.Inputs.{inputsOf};
 use words::signed::low_half;
 
@@ -13,16 +13,14 @@ pub fn ir0(c: &[u32; 64]) -> i16
 
 // SZ1 + SZ2 + SZ3, for AVSZ3.
 pub fn three_depths(c: &[u32; 64]) -> u32
-    ensures is { λ r. ⌜ r ≡ inputsOf (now (c .entry)) .sz1 + inputsOf (now (c .entry)) .sz2 + inputsOf (now (c .entry)) .sz3 ⌝ }
-    ensures small { λ r. ⌜ r < 2 ^ 18 ⌝ }
+    ensures { λ r. ⌜ r ≡ inputsOf (now (c .entry)) .sz1 + inputsOf (now (c .entry)) .sz2 + inputsOf (now (c .entry)) .sz3 ⌝ }
 {
     c[17] % 65536 + c[18] % 65536 + c[19] % 65536
 }
 
 // SZ0 + SZ1 + SZ2 + SZ3, for AVSZ4.
 pub fn four_depths(c: &[u32; 64]) -> u32
-    ensures is { λ r. ⌜ r ≡ inputsOf (now (c .entry)) .sz0 + inputsOf (now (c .entry)) .sz1 + inputsOf (now (c .entry)) .sz2 + inputsOf (now (c .entry)) .sz3 ⌝ }
-    ensures small { λ r. ⌜ r < 2 ^ 18 ⌝ }
+    ensures { λ r. ⌜ r ≡ inputsOf (now (c .entry)) .sz0 + inputsOf (now (c .entry)) .sz1 + inputsOf (now (c .entry)) .sz2 + inputsOf (now (c .entry)) .sz3 ⌝ }
 {
     c[16] % 65536 + c[17] % 65536 + c[18] % 65536 + c[19] % 65536
 }

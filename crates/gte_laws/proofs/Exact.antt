@@ -1,18 +1,18 @@
 -- Register 63 after a command is that of the flags of the command's checks; the laws of FLAG say the rest.
 use mathlib.Core.Path.{_≡_, refl, sym, ap, _∙_, subst}
-use mathlib.Core.Bool.{Bool, true, false, cond}
-use mathlib.Core.List.{List, [], _++_}
+use mathlib.Core.Bool.{Bool, true, false, cond, _&&_, _||_}
+use mathlib.Core.List.{List, [], _∷_, _++_}
 use Prim.Native.Nat.{ℕ, _/_, _%_, _^_}
 use native.Mathlib.Omega.{arith}
-use borrow.Author.Tests.{eqb-true}
+use borrow.Author.Tests.{eqb-true, eqb-false, eq-eqb}
 use lib.Dec.{eqb}
 use lib.IntN.{ℤ}
 use lib.ListN.{length}
-use Rattle.gte_arithmetic.specs.Checks.{Check, or, flags, flagWord, counted}
+use Rattle.gte_arithmetic.specs.Checks.{Check, fails, or, flags, flagWord, counted, some}
 use Rattle.words.specs.Words.{bitAt}
 use Rattle.gte_arithmetic.specs.Values.{mac0Checks}
 use Rattle.gte_arithmetic.specs.declared.values.Line.{Line}
-use Rattle.gte_arithmetic.proofs.Flags.{flags-bit, flags-++, flag-word-bit, clear-31, clear-all}
+use Rattle.gte_arithmetic.proofs.Flags.{flags-bit, flags-++, flag-word-bit, clear-31, clear-all, fst, snd}
 use Rattle.gte_perspective.specs.Projection.{vertexOf}
 use Rattle.gte_depth.specs.Depth.{averageChecks, averageOf}
 use Rattle.gte_arithmetic.specs.declared.values.Vertex.{Vertex}
@@ -37,7 +37,7 @@ use Rattle.gte_matrix.specs.SqrOp.{squareOf, outerOf}
 use Rattle.gte.specs.Commands.{Command, RTPS, NCLIP, OP, DPCS, INTPL, MVMVA, NCDS, CDP, NCDT, NCCS, CC, NCS, NCT, SQR, DCPL, DPCT, AVSZ3, AVSZ4, RTPT, GPF, GPL, NCCT, unlisted, commandIn, sfOf, lmOf, cvOf, leaves, checksOf, listed, outcomeOf, commandOf}
 use Rattle.gte.specs.declared.Outcome.{Outcome}
 use Rattle.gte.specs.declared.Outcome.the-variants.{Done, Unlisted}
-use Rattle.gte_laws.specs.Exact.{checksAt, Demand2}
+use Rattle.gte_laws.specs.Exact.{checksAt, someCounted, Demand2}
 
 -- ---- register 63 of what each family of commands leaves
 module _ (w : List ℕ) (h : length w ≡ 64) where
@@ -134,12 +134,62 @@ flag-register word w h e = rw e (flags-are (sfOf word) (lmOf word) word (inputsO
 odd-bit : (b : ℕ) → bitAt b counted ≡ true → counted / 2 ^ b % 2 ≡ 1
 odd-bit b e = eqb-true (counted / 2 ^ b % 2) 1 e
 
+-- ---- bit 31 against the checks that count
+apart : {A : Type 0} → _≡_ {A = Bool} true false → A
+apart z = let n : _≡_ {A = ℕ} 0 1 = ap (λ (b : Bool). cond b 0 1) z in absurd (omega arith)
+
+none-by : (t : Bool) (c : Check) (b : ℕ) → eqb (c .bit) b ≡ t → bitAt b counted ≡ true → (bitAt (c .bit) counted && fails (c .test)) ≡ false → (t && fails (c .test)) ≡ false
+none-by true c b e m h =
+    let counts : bitAt (c .bit) counted ≡ true = ap (λ (n : ℕ). bitAt n counted) (eqb-true (c .bit) b e) ∙ m in
+    sym (ap (λ (x : Bool). x && fails (c .test)) counts) ∙ h
+none-by false c b e m h = refl
+
+both : (x y : Bool) → x ≡ false → y ≡ false → (x || y) ≡ false
+both x y p q = rw (p, q)
+
+-- where none that counts fails, no bit that counts is set
+none-set : (cs : List Check) → someCounted cs ≡ false → (b : ℕ) → bitAt b counted ≡ true → some b cs ≡ false
+none-set [] h b m = refl
+none-set (c ∷ cs) h b m =
+    both (eqb (c .bit) b && fails (c .test)) (some b cs)
+    (none-by (eqb (c .bit) b) c b refl m (fst (bitAt (c .bit) counted && fails (c .test)) (someCounted cs) h))
+    (none-set cs (snd (bitAt (c .bit) counted && fails (c .test)) (someCounted cs) h) b m)
+
+own : (t : Bool) (c : Check) (cs : List Check) → bitAt (c .bit) counted ≡ t → ((b : ℕ) → bitAt b counted ≡ true → some b (c ∷ cs) ≡ false) → (t && fails (c .test)) ≡ false
+own true c cs e h =
+    let k = fst (eqb (c .bit) (c .bit) && fails (c .test)) (some (c .bit) cs) (h (c .bit) e) in
+    sym (ap (λ (x : Bool). x && fails (c .test)) (eq-eqb (c .bit) (c .bit) refl)) ∙ k
+own false c cs e h = refl
+
+-- and the other way round
+none-fails : (cs : List Check) → ((b : ℕ) → bitAt b counted ≡ true → some b cs ≡ false) → someCounted cs ≡ false
+none-fails [] h = refl
+none-fails (c ∷ cs) h =
+    both (bitAt (c .bit) counted && fails (c .test)) (someCounted cs) (own (bitAt (c .bit) counted) c cs refl h)
+    (none-fails cs (λ b m. snd (eqb (c .bit) b && fails (c .test)) (some b cs) (h b m)))
+
+top-by : (s t : Bool) → (t ≡ false → s ≡ false) → (s ≡ false → t ≡ false) → s ≡ t
+top-by true true p q = refl
+top-by true false p q = p refl
+top-by false true p q = sym (q refl)
+top-by false false p q = refl
+
+top-bit : (cs : List Check) → bitAt 31 (flagWord (flags cs)) ≡ someCounted cs
+top-bit cs =
+    top-by (bitAt 31 (flagWord (flags cs))) (someCounted cs)
+    (λ h. clear-all (flags cs) (λ b m. flags-bit b cs ∙ none-set cs h b m))
+    (λ h. none-fails cs (λ b m. sym (flags-bit b cs) ∙ clear-31 (flags cs) b h (odd-bit b m)))
+
+swap : (s t : Bool) → (s && t) ≡ (t && s)
+swap true true = refl
+swap true false = refl
+swap false true = refl
+swap false false = refl
+
+bit-by : (t : Bool) (b : ℕ) (cs : List Check) → eqb 31 b ≡ t → bitAt b (flagWord (flags cs)) ≡ cond t (someCounted cs) (bitAt b 0x7fff_f000 && some b cs)
+bit-by true b cs e = ap (λ (n : ℕ). bitAt n (flagWord (flags cs))) (sym (eqb-true 31 b e)) ∙ top-bit cs
+bit-by false b cs e =
+    flag-word-bit (flags cs) b (eqb-false 31 b e) ∙ ap (λ (x : Bool). x && bitAt b 0x7fff_f000) (flags-bit b cs) ∙ swap (some b cs) (bitAt b 0x7fff_f000)
+
 pub demand-2 : Demand2
-demand-2 word w h e =
-    let k = flag-register word w h e in
-    let f = flags (checksAt word w) in
-    record {
-      bits = λ b m. ap (bitAt b) k ∙ flag-word-bit f b m ∙ flags-bit b (checksAt word w);
-      clear = λ c b m. sym (flags-bit b (checksAt word w)) ∙ clear-31 f b (sym (ap (bitAt 31) k) ∙ c) (odd-bit b m);
-      set = λ c. ap (bitAt 31) k ∙ clear-all f (λ b m. flags-bit b (checksAt word w) ∙ c b m);
-    }
+demand-2 word w h e b = ap (bitAt b) (flag-register word w h e) ∙ bit-by (eqb 31 b) b (checksAt word w) refl

@@ -1,4 +1,4 @@
--- What a write or a command leaves is well formed, so that an image that was accepted is accepted when it comes back.
+-- What a write or a command leaves is what reads return of some words, and reads read alike when they are read again.
 use mathlib.Core.List.{List}
 use Prim.Native.Nat.{ℕ}
 use Rattle.gte_registers.specs.Registers.{reads, WellFormed, writeOf}
@@ -6,8 +6,9 @@ use Rattle.gte_registers.proofs.Views.{reads-reads}
 use Rattle.gte.specs.Commands.{ifDone, outcomeOf, commandOf}
 use Rattle.gte.specs.declared.Outcome.{Outcome}
 use Rattle.gte.specs.declared.Outcome.the-variants.{Done, Unlisted}
+use Rattle.gte_laws.specs.Formed.{WriteFormed, CommandFormed}
 
-pub write-formed : (w : List ℕ) (i x : ℕ) → WellFormed (writeOf w i x)
+pub write-formed : WriteFormed
 unfolding writeOf
 write-formed w i x = reads-reads _
 
@@ -15,6 +16,6 @@ either : (o : Outcome) (a w : List ℕ) → WellFormed w → WellFormed (ifDone 
 either Done a w h = reads-reads a
 either Unlisted a w h = h
 
-pub command-formed : (word : ℕ) (w : List ℕ) → WellFormed w → WellFormed (commandOf word w)
+pub command-formed : CommandFormed
 unfolding commandOf
 command-formed word w h = either (outcomeOf word) _ w h

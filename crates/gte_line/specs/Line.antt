@@ -2,10 +2,9 @@
 use mathlib.Core.Bool.{Bool}
 use mathlib.Core.List.{List, [], _∷_}
 use Prim.Native.Nat.{ℕ}
-use lib.IntN.{ℤ, pos}
-use Rattle.integers.specs.Clamp.{outside}
-use Rattle.gte_arithmetic.specs.Checks.{or, raise, Check, flags}
-use Rattle.gte_arithmetic.specs.Values.{lowest, macOf, irOf, sumFlag, sumChecks, irCheck}
+use lib.IntN.{ℤ}
+use Rattle.gte_arithmetic.specs.Checks.{or, Check, flags}
+use Rattle.gte_arithmetic.specs.Values.{irRange, limitFlag, macOf, irOf, sumFlag, sumChecks, irCheck}
 use Rattle.gte_arithmetic.specs.declared.values.Vector.{Vector}
 use Rattle.gte_arithmetic.specs.declared.values.Long.{Long}
 use Rattle.gte_arithmetic.specs.declared.values.Wide.{Wide}
@@ -18,7 +17,7 @@ cellOf sf lm over under bit x =
     record {
       mac = macOf sf x;
       ir = irOf lm (macOf sf x);
-      flag = or (sumFlag over under x) (raise (outside (lowest lm) (pos 0x7fff) (macOf sf x)) bit);
+      flag = or (sumFlag over under x) (limitFlag (irRange lm) (macOf sf x) bit);
     }
 
 abbrev pub macsOf : Bool → Wide → Long

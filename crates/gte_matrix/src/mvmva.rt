@@ -1,6 +1,6 @@
 // MVMVA: one line of MAC1..3 and IR1..3.
 ghost use mathlib.Core.Path.{_≡_};
-ghost use Prim.Native.Nat.{_*_, _^_, _<_};
+ghost use Prim.Native.Nat.{_*_, _^_};
 ghost use Rattle.gte_sums.specs.Sums.{Bounded};
 ghost use Rattle.gte_registers.specs.Registers.{view, reads};
 ghost use Rattle.gte_inputs.specs.Inputs.{inputsOf};
@@ -35,7 +35,6 @@ fn odd_matrix(m: [[i16; 3]; 3], f: i16) -> [[i16; 3]; 3]
 }
 
 fn chosen_matrix(c: &[u32; 64], mx: u32) -> [[i16; 3]; 3]
-    requires { ⌜ mx < 4 ⌝ }
     ensures { λ m. ⌜ m ≡ matrixBy mx (inputsOf (now (c .entry))) ⌝ }
 {
     match mx {
@@ -47,7 +46,6 @@ fn chosen_matrix(c: &[u32; 64], mx: u32) -> [[i16; 3]; 3]
 }
 
 fn chosen_vector(c: &[u32; 64], v: u32) -> Vector
-    requires { ⌜ v < 4 ⌝ }
     ensures { λ r. ⌜ r ≡ vectorBy v (inputsOf (now (c .entry))) ⌝ }
 {
     match v {
@@ -59,7 +57,6 @@ fn chosen_vector(c: &[u32; 64], v: u32) -> Vector
 }
 
 fn chosen_long(c: &[u32; 64], cv: u32) -> Long
-    requires { ⌜ cv < 4 ⌝ }
     ensures { λ r. ⌜ r ≡ longBy cv (inputsOf (now (c .entry))) ⌝ }
 {
     match cv {
@@ -120,7 +117,6 @@ fn multiply(m: [[i16; 3]; 3], t: Long, v: Vector, cv: u32, sf: bool, lm: bool) -
 
 // T·1000h + M·V with the matrix, vector and translation of the command's bits.
 pub fn mvmva(c: &mut [u32; 64], mx: u32, v: u32, cv: u32, sf: bool, lm: bool)
-    requires { ⌜ (mx < 4) × (v < 4) × (cv < 4) ⌝ }
     ensures { λ _. ⌜ view (now (c .exit)) ≡ reads (lineLeft (mvmvaOf sf lm mx v cv (inputsOf (view (now (c .entry))))) (view (now (c .entry)))) ⌝ }
 {
     let m = chosen_matrix(c, mx);

@@ -2,11 +2,9 @@
 ghost use mathlib.Core.Path.{_≡_};
 ghost use mathlib.Core.Bool.{false};
 ghost use Prim.Native.Nat.{_*_, _^_, _<_};
-ghost use lib.IntN.{pos, negsuc};
 ghost use Rattle.integers.specs.Parts.{Mag};
-ghost use Rattle.integers.specs.Clamp.{outside};
-ghost use Rattle.gte_arithmetic.specs.Checks.{or, raise};
-ghost use Rattle.gte_arithmetic.specs.Values.{macOf, irOf, depthOf, sumFlag};
+ghost use Rattle.gte_arithmetic.specs.Checks.{or};
+ghost use Rattle.gte_arithmetic.specs.Values.{irRange, depthRange, limitFlag, macOf, irOf, depthOf, sumFlag};
 ghost use Rattle.gte_sums.specs.Sums.{Bounded};
 ghost use Rattle.gte_perspective.specs.Projection.{farOf, vertexOf};
 use crate::screen::to_screen;
@@ -35,7 +33,7 @@ struct Third {
 // Lines 3 and 4, with each of their tests. IR3 sets no flag of its own: bits 22 and 18 test the 44-bit sum shifted by 12.
 fn third_line_tested(x: i64, sf: bool) -> Third
     requires { ⌜ Mag x (3 * 2 ^ 43) ⌝ }
-    ensures { λ r. ⌜ r ≡ record { mac = macOf sf x; ir = irOf false (macOf sf x); sz = depthOf (farOf x); flag = or (sumFlag 0x1000_0000 0x200_0000 x) (or (raise (outside (negsuc 0x7fff) (pos 0x7fff) (farOf x)) 0x40_0000) (raise (outside (pos 0) (pos 0xffff) (farOf x)) 0x4_0000)) } ⌝ }
+    ensures { λ r. ⌜ r ≡ record { mac = macOf sf x; ir = irOf false (macOf sf x); sz = depthOf (farOf x); flag = or (sumFlag 0x1000_0000 0x200_0000 x) (or (limitFlag (irRange false) (farOf x) 0x40_0000) (limitFlag depthRange (farOf x) 0x4_0000)) } ⌝ }
 {
     let w = wrap_44(x, 0x1000_0000, 0x200_0000);
     let z = shift_12(w.v);
@@ -54,7 +52,7 @@ fn third_line_tested(x: i64, sf: bool) -> Third
 // Lines 3 and 4. With sf = 1 a depth that IR3 can hold is MAC3, IR3 and SZ3, and sets no bit.
 fn third_line(x: i64, sf: bool) -> Third
     requires { ⌜ Mag x (3 * 2 ^ 43) ⌝ }
-    ensures { λ r. ⌜ r ≡ record { mac = macOf sf x; ir = irOf false (macOf sf x); sz = depthOf (farOf x); flag = or (sumFlag 0x1000_0000 0x200_0000 x) (or (raise (outside (negsuc 0x7fff) (pos 0x7fff) (farOf x)) 0x40_0000) (raise (outside (pos 0) (pos 0xffff) (farOf x)) 0x4_0000)) } ⌝ }
+    ensures { λ r. ⌜ r ≡ record { mac = macOf sf x; ir = irOf false (macOf sf x); sz = depthOf (farOf x); flag = or (sumFlag 0x1000_0000 0x200_0000 x) (or (limitFlag (irRange false) (farOf x) 0x40_0000) (limitFlag depthRange (farOf x) 0x4_0000)) } ⌝ }
 {
     if sf {
         let z = shift_12(x);

@@ -1,12 +1,10 @@
 // Lines 5 to 7 of one vertex: from the depth and two IR to the screen.
 ghost use mathlib.Core.Path.{_≡_};
 ghost use Prim.Native.Nat.{_*_, _^_, _<_};
-ghost use lib.IntN.{pos, negsuc};
 ghost use lib.Signed.{shrZ};
 ghost use Rattle.integers.specs.Wrap.{wrap};
-ghost use Rattle.integers.specs.Clamp.{outside};
-ghost use Rattle.gte_arithmetic.specs.Checks.{or, raise};
-ghost use Rattle.gte_arithmetic.specs.Values.{screenOf, factorOf, mac0Flag};
+ghost use Rattle.gte_arithmetic.specs.Checks.{or};
+ghost use Rattle.gte_arithmetic.specs.Values.{screenRange, factorRange, limitFlag, screenOf, factorOf, mac0Flag};
 ghost use Rattle.gte_perspective.specs.Perspective.{exactOf, pairOf, onScreen};
 use gte_arithmetic::limits::Short;
 use gte_arithmetic::limits::divide;
@@ -51,7 +49,7 @@ fn exact(q: u32, k: i16, b: i32) -> i64
 
 // Line 5 or 6, with each of its tests: MAC0 is tested, and the coordinate limited from its exact value.
 fn coordinate_tested(x: i64, bit: u32) -> Short
-    ensures { λ r. ⌜ r ≡ record { v = screenOf (shrZ x 65536); flag = or (mac0Flag x) (raise (outside (negsuc 0x3ff) (pos 0x3ff) (shrZ x 65536)) bit) } ⌝ }
+    ensures { λ r. ⌜ r ≡ record { v = screenOf (shrZ x 65536); flag = or (mac0Flag x) (limitFlag screenRange (shrZ x 65536) bit) } ⌝ }
 {
     let m = store_mac0(x);
     let s = limit_screen(shift_16(x), bit);
@@ -64,7 +62,7 @@ fn coordinate_tested(x: i64, bit: u32) -> Short
 // Line 5 or 6. Most points lie on the screen, where one test finds that no bit is set.
 fn coordinate(q: u32, ir: i16, offset: i32, bit: u32) -> Short
     requires { ⌜ q < 2 ^ 17 ⌝ }
-    ensures { λ r. ⌜ r ≡ record { v = screenOf (shrZ (exactOf q ir offset) 65536); flag = or (mac0Flag (exactOf q ir offset)) (raise (outside (negsuc 0x3ff) (pos 0x3ff) (shrZ (exactOf q ir offset) 65536)) bit) } ⌝ }
+    ensures { λ r. ⌜ r ≡ record { v = screenOf (shrZ (exactOf q ir offset) 65536); flag = or (mac0Flag (exactOf q ir offset)) (limitFlag screenRange (shrZ (exactOf q ir offset) 65536) bit) } ⌝ }
 {
     let x = exact(q, ir, offset);
     let s = shift_16(x);
@@ -79,7 +77,7 @@ fn coordinate(q: u32, ir: i16, offset: i32, bit: u32) -> Short
 
 // Line 7, with each of its tests: the MAC0 that stays, and IR0.
 fn cue_factor_tested(x: i64) -> Factor
-    ensures { λ r. ⌜ r ≡ record { mac0 = wrap (2 ^ 31) x; ir0 = factorOf (shrZ x 4096); flag = or (mac0Flag x) (raise (outside (pos 0) (pos 0x1000) (shrZ x 4096)) 0x1000) } ⌝ }
+    ensures { λ r. ⌜ r ≡ record { mac0 = wrap (2 ^ 31) x; ir0 = factorOf (shrZ x 4096); flag = or (mac0Flag x) (limitFlag factorRange (shrZ x 4096) 0x1000) } ⌝ }
 {
     let m = store_mac0(x);
     let f = limit_factor(shift_12(x));
@@ -93,7 +91,7 @@ fn cue_factor_tested(x: i64) -> Factor
 // Line 7. An IR0 in range comes from a MAC0 that needs no test.
 fn cue_factor(q: u32, dqa: i16, dqb: i32) -> Factor
     requires { ⌜ q < 2 ^ 17 ⌝ }
-    ensures { λ r. ⌜ r ≡ record { mac0 = wrap (2 ^ 31) (exactOf q dqa dqb); ir0 = factorOf (shrZ (exactOf q dqa dqb) 4096); flag = or (mac0Flag (exactOf q dqa dqb)) (raise (outside (pos 0) (pos 0x1000) (shrZ (exactOf q dqa dqb) 4096)) 0x1000) } ⌝ }
+    ensures { λ r. ⌜ r ≡ record { mac0 = wrap (2 ^ 31) (exactOf q dqa dqb); ir0 = factorOf (shrZ (exactOf q dqa dqb) 4096); flag = or (mac0Flag (exactOf q dqa dqb)) (limitFlag factorRange (shrZ (exactOf q dqa dqb) 4096) 0x1000) } ⌝ }
 {
     let x = exact(q, dqa, dqb);
     let f = shift_12(x);

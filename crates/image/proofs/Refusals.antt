@@ -1,62 +1,118 @@
--- What a call that is not refused has passed.
+-- What a call that is not refused has passed, of any list of tests and of the run's.
 use Prim.Native.Nat.{ℕ, _≤_}
 use native.Mathlib.Omega.{arith}
-use mathlib.Core.Bool.{Bool, true, false, cond}
-use mathlib.Core.List.{List}
-use mathlib.Core.Path.{_≡_, refl, sym, _∙_}
+use mathlib.Core.Bool.{Bool, true, false, cond, _&&_, and-eq-true-iff}
+use mathlib.Core.List.{List, [], _∷_}
+use mathlib.Core.Path.{_≡_, refl, sym, ap, _∙_}
 use lib.Dec.{eqb, leb}
-use lib.ListN.{length}
-use borrow.Author.Tests.{eqb-true, leb-true}
+use lib.ListN.{length, replicate}
+use borrow.Author.Tests.{eqb-true, leb-true, eq-eqb, ne-eqb, le-leb}
 use Rattle.gte_registers.specs.Registers.{view}
 use Rattle.memory.specs.Addresses.{ramLength}
-use Rattle.cpu_state.specs.declared.control.Control.{Control}
 use Rattle.cpu_state.specs.State.{state}
+use Rattle.cpu_state.specs.declared.control.Control.{Control}
 use Rattle.image.specs.Image.{imageLength, registersIn, controlIn, geometryIn, controlOf, machineOf}
 use Rattle.image.specs.Formed.{formed, wellFormed}
+use Rattle.image.specs.Refusals.{mostSteps, Test, _else_, firstOf, imageTests, lentTests, refusalOf, imageRefusal, refusalAfter, readOf}
+use Rattle.image.specs.declared.admission.Read.{Read}
 use Rattle.image.proofs.Facts.{formed-view}
-use Rattle.image.specs.Refusals.{mostSteps, afterFormed, refusalOf}
 
+-- ---- of any tests
+abbrev Pass : List Test → Type 0
+Pass [] = Unit
+Pass ((ok else code) ∷ ts) = (ok ≡ true) × Pass ts
+
+-- every code is a number from 1 to most
+abbrev coded : ℕ → List Test → Bool
+coded most [] = true
+coded most ((ok else code) ∷ ts) = (leb 1 code && leb code most) && coded most ts
+
+record Coded (most code : ℕ) (ts : List Test) : Type 0 where
+  least : 1 ≤ code
+  greatest : code ≤ most
+  rest : coded most ts ≡ true
+
+codes : (most code : ℕ) (ts : List Test) → ((leb 1 code && leb code most) && coded most ts) ≡ true → Coded most code ts
+codes most code ts h =
+    let s = and-eq-true-iff (leb 1 code && leb code most) (coded most ts) .0 h in
+    let n = and-eq-true-iff (leb 1 code) (leb code most) .0 (s .0) in
+    record { least = leb-true 1 code (n .0); greatest = leb-true code most (n .1); rest = s .1 }
+
+all-pass : (most : ℕ) (ts : List Test) → coded most ts ≡ true → firstOf ts ≡ 0 → Pass ts
+unfolding firstOf
+all-pass most [] c h = tt
+all-pass most ((true else code) ∷ ts) c h = (refl, all-pass most ts (codes most code ts c .rest) h)
+all-pass most ((false else code) ∷ ts) c h = let n = codes most code ts c .least in absurd (omega arith)
+
+none-fails : (ts : List Test) → Pass ts → firstOf ts ≡ 0
+unfolding firstOf
+none-fails [] p = refl
+none-fails ((ok else code) ∷ ts) p = rw (p .0) (none-fails ts (p .1))
+
+at-most : (most : ℕ) (ts : List Test) → coded most ts ≡ true → firstOf ts ≤ most
+unfolding firstOf
+at-most most [] c = omega arith
+at-most most ((true else code) ∷ ts) c = at-most most ts (codes most code ts c .rest)
+at-most most ((false else code) ∷ ts) c = codes most code ts c .greatest
+
+-- ---- of a call of the run
 pub record Passed (m : List ℕ) (len count : ℕ) : Type 0 where
   pub long : length m ≡ imageLength
   pub formed : wellFormed m ≡ true
   pub ok : ramLength len ≡ true
   pub most : count ≤ mostSteps
 
-never : {A : Type 0} (n : ℕ) → n ≡ 0 → 1 ≤ n → A
-never n e h = absurd (omega arith)
-
-abbrev codesBy : Bool → Bool → Bool → Bool → ℕ
-codesBy a b d e = cond a (cond b (cond d (cond e 0 4) 3) 2) 1
-
-passed-by : (a b d e : Bool) (m : List ℕ) (len count : ℕ) → eqb (length m) imageLength ≡ a → wellFormed m ≡ b → ramLength len ≡ d → leb count mostSteps ≡ e → codesBy a b d e ≡ 0 → Passed m len count
-passed-by true true true true m len count p q r s h = record { long = eqb-true _ _ p; formed = q; ok = r; most = leb-true _ _ s }
-passed-by true true true false m len count p q r s h = never 4 h (omega arith)
-passed-by true true false e m len count p q r s h = never 3 h (omega arith)
-passed-by true false d e m len count p q r s h = never 2 h (omega arith)
-passed-by false b d e m len count p q r s h = never 1 h (omega arith)
-
 pub passed : (m : List ℕ) (len count : ℕ) → refusalOf m len count ≡ 0 → Passed m len count
-unfolding refusalOf afterFormed
-passed m len count h = passed-by (eqb (length m) imageLength) (wellFormed m) (ramLength len) (leb count mostSteps) m len count refl refl refl refl h
+unfolding refusalOf
+passed m len count h =
+    let p = all-pass 4 (imageTests m (lentTests len count)) refl h in
+    record { long = eqb-true _ _ (p .0); formed = p .1 .0; ok = p .1 .1 .0; most = leb-true _ _ (p .1 .1 .1 .0) }
 
-small-by : (a b d e : Bool) → codesBy a b d e ≤ 4
-small-by true true true true = omega arith
-small-by true true true false = omega arith
-small-by true true false e = omega arith
-small-by true false d e = omega arith
-small-by false b d e = omega arith
+pub admitted : (m : List ℕ) (len count : ℕ) → Passed m len count → refusalOf m len count ≡ 0
+unfolding refusalOf
+admitted m len count p = none-fails (imageTests m (lentTests len count)) (eq-eqb _ _ (p .long), (p .formed, (p .ok, (le-leb _ _ (p .most), tt))))
 
-pub small : (code : ℕ) (m : List ℕ) (len count : ℕ) → code ≡ refusalOf m len count → code ≤ 4
-unfolding refusalOf afterFormed
-small code m len count e = rw e (small-by (eqb (length m) imageLength) (wellFormed m) (ramLength len) (leb count mostSteps))
+-- ---- its two halves
+halves-by : (a b : Bool) (n : ℕ) (ts : List Test) → firstOf ((a else 1) ∷ (b else 2) ∷ []) ≡ n → firstOf ((a else 1) ∷ (b else 2) ∷ ts) ≡ cond (eqb n 0) (firstOf ts) n
+unfolding firstOf
+halves-by true true n ts h = rw (← h)
+halves-by true false n ts h = rw (← h)
+halves-by false b n ts h = rw (← h)
 
--- ---- the machine that was read
-formed-of : (b : Bool) (len count : ℕ) → afterFormed b len count ≡ 0 → b ≡ true
-unfolding afterFormed
-formed-of true len count h = refl
-formed-of false len count h = never 2 h (omega arith)
+-- the image's refusal comes first, and the others' where there is none
+pub halves : (m : List ℕ) (len count : ℕ) → refusalOf m len count ≡ refusalAfter (imageRefusal m) len count
+unfolding refusalOf imageRefusal refusalAfter
+halves m len count = halves-by (eqb (length m) imageLength) (wellFormed m) (firstOf (imageTests m [])) (lentTests len count) refl
 
-pub machine-is : (m r w g : List ℕ) (c : Control) (b : Bool) (len count : ℕ) → r ≡ registersIn m → w ≡ controlIn m → g ≡ geometryIn m → c ≡ controlOf w → b ≡ formed r w g → afterFormed b len count ≡ 0 → (x : List ℕ) → state c r (view g) x ≡ machineOf m x
-machine-is m r w g c b len count p q u e f h x =
-    let t : formed r w g ≡ true = sym f ∙ formed-of b len count h in
-    rw (e, formed-view r w g t, p, q, u)
+-- a refused image's code is the call's
+pub accepted-first : (m : List ℕ) (len count : ℕ) → refusalOf m len count ≡ 0 → imageRefusal m ≡ 0
+unfolding imageRefusal
+accepted-first m len count h = let p = passed m len count h in none-fails (imageTests m []) (eq-eqb _ _ (p .long), (p .formed, tt))
+
+pub code-small : (code : ℕ) (m : List ℕ) (len count : ℕ) → code ≡ refusalOf m len count → code ≤ 4
+unfolding refusalOf
+code-small code m len count e = rw e (at-most 4 (imageTests m (lentTests len count)) refl)
+
+-- ---- the machine that was read, where the image is accepted
+machine-read : (m x : List ℕ) → imageRefusal m ≡ 0 → state (readOf m .control) (readOf m .registers) (view (readOf m .geometry)) x ≡ machineOf m x
+unfolding imageRefusal readOf
+machine-read m x h =
+    let p = all-pass 2 (imageTests m []) refl h in
+    rw (p .0, formed-view (registersIn m) (controlIn m) (geometryIn m) (p .1 .0))
+
+-- ---- the same of an answer that is what was read
+pub code-of : (r : Read) (m : List ℕ) → r ≡ readOf m → r .code ≡ imageRefusal m
+unfolding readOf
+code-of r m e = ap (λ (x : Read). x .code) e
+
+pub machine-of : (r : Read) (m x : List ℕ) → r ≡ readOf m → imageRefusal m ≡ 0 → state (r .control) (r .registers) (view (r .geometry)) x ≡ machineOf m x
+machine-of r m x e z = rw e (machine-read m x z)
+
+-- ---- what the code reads is what is read
+pub read-other : (m : List ℕ) (c : Control) → (length m ≡ imageLength → ⊥) → c ≡ controlOf (replicate 12 0) → _≡_ {A = Read} (record { code = 1; control = c; registers = replicate 32 0; geometry = replicate 64 0 }) (readOf m)
+unfolding readOf imageRefusal firstOf
+read-other m c h e = rw (ne-eqb (length m) imageLength h, e)
+
+pub read-whole : (m r w g : List ℕ) (c : Control) (b : Bool) → length m ≡ imageLength → r ≡ registersIn m → w ≡ controlIn m → g ≡ geometryIn m → c ≡ controlOf w → formed r w g ≡ b → _≡_ {A = Read} (record { code = cond b 0 2; control = c; registers = r; geometry = g }) (readOf m)
+unfolding readOf imageRefusal firstOf
+read-whole m r w g c b long p q u e f = rw (← f, e, p, q, u, eq-eqb (length m) imageLength long)

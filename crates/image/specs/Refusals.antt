@@ -1,19 +1,56 @@
--- Which calls of the run are refused (01 "The run and its numbers").
+-- Which calls are refused, and what is read of an image (01 "The run and its numbers").
 use mathlib.Core.Bool.{Bool, cond}
-use mathlib.Core.List.{List}
+use mathlib.Core.List.{List, [], _∷_}
 use Prim.Native.Nat.{ℕ}
 use lib.Dec.{eqb, leb}
-use lib.ListN.{length}
+use lib.ListN.{length, replicate}
 use Rattle.memory.specs.Addresses.{ramLength}
-use Rattle.image.specs.Image.{imageLength}
+use Rattle.image.specs.Image.{imageLength, registersIn, controlIn, geometryIn, controlOf}
 use Rattle.image.specs.Formed.{wellFormed}
+use Rattle.image.specs.declared.admission.Read.{Read}
+
+-- what a call has to pass, and the code of one that does not
+infix 20 _else_
+pub data Test : Type 0 where
+  _else_ : Bool → ℕ → Test
+
+-- the code of the first test that fails; 0: all pass
+unfoldable pub firstOf : List Test → ℕ
+firstOf [] = 0
+firstOf ((ok else code) ∷ ts) = cond ok (firstOf ts) code
 
 abbrev pub mostSteps : ℕ
 mostSteps = 1000000
 
--- codes 1 to 4 are tested in the table's order; 0: the call is not refused
-unfoldable pub afterFormed : Bool → ℕ → ℕ → ℕ
-afterFormed formed len count = cond formed (cond (ramLength len) (cond (leb count mostSteps) 0 4) 3) 2
+-- the image's own tests, in front of others: codes 1 and 2
+abbrev pub imageTests : List ℕ → List Test → List Test
+imageTests m ts = (eqb (length m) imageLength else 1) ∷ (wellFormed m else 2) ∷ ts
 
+-- those of RAM's length and the count: codes 3 and 4
+abbrev pub lentTests : ℕ → ℕ → List Test
+lentTests len count = (ramLength len else 3) ∷ (leb count mostSteps else 4) ∷ []
+
+-- codes 1 to 4 are tested in the table's order; 0: the call is not refused
 unfoldable pub refusalOf : List ℕ → ℕ → ℕ → ℕ
-refusalOf m len count = cond (eqb (length m) imageLength) (afterFormed (wellFormed m) len count) 1
+refusalOf m len count = firstOf (imageTests m (lentTests len count))
+
+-- ---- the two halves, as code makes them
+unfoldable pub imageRefusal : List ℕ → ℕ
+imageRefusal m = firstOf (imageTests m [])
+
+-- the other tests, where the image's answered 0
+unfoldable pub refusalAfter : ℕ → ℕ → ℕ → ℕ
+refusalAfter code len count = cond (eqb code 0) (firstOf (lentTests len count)) code
+
+-- what is read of an image: its words, or zeros where it has not the length of an image, and why it is refused
+abbrev pub wordsOr : List ℕ → List ℕ → ℕ → List ℕ
+wordsOr m ws n = cond (eqb (length m) imageLength) ws (replicate n 0)
+
+unfoldable pub readOf : List ℕ → Read
+readOf m =
+    record {
+      code = imageRefusal m;
+      control = controlOf (wordsOr m (controlIn m) 12);
+      registers = wordsOr m (registersIn m) 32;
+      geometry = wordsOr m (geometryIn m) 64;
+    }

@@ -1,50 +1,38 @@
-// The machine that an image describes, or why its call is refused.
-ghost use mathlib.Core.List.{List};
+// What is read of an image, and which calls are refused.
+ghost use mathlib.Core.Bool.{cond};
 ghost use mathlib.Core.Path.{_≡_};
-ghost use Prim.Native.Nat.{ℕ};
-ghost use Rattle.gte_registers.specs.Registers.{view};
-ghost use Rattle.cpu_state.specs.State.{state};
-ghost use Rattle.image.specs.Image.{machineOf};
-ghost use Rattle.image.specs.Refusals.{afterFormed, refusalOf};
+ghost use Rattle.image.specs.Refusals.{readOf, refusalAfter};
 use crate::bytes::control_from;
 use crate::formed::well_formed;
 use byte_order::read_words;
 use cpu_state::control::Control;
 use memory::addresses::ram_length;
 
-// A machine that was read from an image, and why its call is refused; with code 0 it is not.
-pub struct Admitted {
+// The words of an image as a machine, and why the image is refused: 1 for its length, 2 for its form, 0 where it is accepted. An
+// image that is not 432 bytes long is read as zeros.
+pub struct Read {
     pub code: u64,
     pub control: Control,
     pub registers: [u32; 32],
     pub geometry: [u32; 64],
 }
 
-// Codes 2 to 4 of an image of the right length.
-fn refusal(formed: bool, len: usize, count: u64) -> u64
-    ensures { λ r. ⌜ r ≡ afterFormed formed len count ⌝ }
+// Code 2 where the words are not well formed.
+fn form_code(formed: bool) -> u64
+    ensures { λ r. ⌜ r ≡ cond formed 0 2 ⌝ }
 {
-    if formed {
-        if ram_length(len) {
-            if count <= 1_000_000 { 0 } else { 4 }
-        } else {
-            3
-        }
-    } else {
-        2
-    }
+    if formed { 0 } else { 2 }
 }
 
-// Codes 1 to 4 in their order, and the machine where none applies.
-pub fn admit(image: &[u8], len: usize, count: u64) -> Admitted
-    ensures is { λ a. ⌜ a .code ≡ refusalOf (now (image .entry)) len count ⌝ }
-    ensures machine { λ a. ⌜ (a .code ≡ 0 → (m : List ℕ) → state (a .control) (a .registers) (view (a .geometry)) m ≡ machineOf (now (image .entry)) m) ⌝ }
+// The image's part of the refusals, for every call that takes one.
+pub fn read_image(image: &[u8]) -> Read
+    ensures { λ a. ⌜ a ≡ readOf (now (image .entry)) ⌝ }
 {
     let mut r = [0u32; 32];
     let mut w = [0u32; 12];
     let mut g = [0u32; 64];
     if image.len() != 432 {
-        return Admitted {
+        return Read {
             code: 1,
             control: control_from(&w),
             registers: r,
@@ -54,11 +42,24 @@ pub fn admit(image: &[u8], len: usize, count: u64) -> Admitted
     read_words(image, 0, &mut r);
     read_words(image, 128, &mut w);
     read_words(image, 176, &mut g);
-    let formed = well_formed(&r, &w, &g);
-    Admitted {
-        code: refusal(formed, len, count),
+    Read {
+        code: form_code(well_formed(&r, &w, &g)),
         control: control_from(&w),
         registers: r,
         geometry: g,
+    }
+}
+
+// The run's refusal: that of its image, else 3 for RAM's length or 4 for the count, or 0.
+pub fn refusal(image: u64, len: usize, count: u64) -> u64
+    ensures { λ r. ⌜ r ≡ refusalAfter image len count ⌝ }
+{
+    if image != 0 {
+        return image;
+    }
+    if ram_length(len) {
+        if count <= 1_000_000 { 0 } else { 4 }
+    } else {
+        3
     }
 }

@@ -2,15 +2,17 @@
 use Prim.Native.Nat.{ℕ, suc, _+_, _*_, _/_, _%_, _<_, _≤_}
 use mathlib.Core.Bool.{Bool, true, false, cond, _&&_, and-eq-true-iff}
 use mathlib.Core.List.{List}
-use mathlib.Core.Path.{_≡_, refl, sym, _∙_}
+use mathlib.Core.Path.{_≡_, refl, sym, ap, _∙_}
 use native.Mathlib.Omega.{arith}
 use lib.Dec.{eqb, ltb, leb}
 use lib.ListN.{length}
-use borrow.Author.Tests.{eqb-true, eqb-false, ltb-true, leb-true, eq-eqb, lt-ltb}
-use Rattle.memory.specs.Addresses.{ramLength, RamOk, mapped, segmentOf, placeOf}
+use borrow.Author.Tests.{eqb-true, eqb-false, ltb-true, leb-true, eq-eqb, lt-ltb, le-ltb}
+use Rattle.memory.specs.Addresses.{ramLength, RamOk, mapped, physicalOf, segmentOf, placeOf, wordInRam, directOf}
 use Rattle.memory.specs.declared.addresses.Phys.{Phys}
 use Rattle.memory.specs.declared.addresses.Place.{Place}
 use Rattle.memory.specs.declared.addresses.Place.the-variants.{At, Bus, Address}
+use Rattle.memory.specs.declared.addresses.Direct.{Direct}
+use Rattle.memory.specs.declared.addresses.Direct.the-variants as Direct
 
 -- ---- a test either way
 either : {A : Type 0} (P : A → Type 0) (b : Bool) (x y : A) → (b ≡ true → P x) → (b ≡ false → P y) → P (cond b x y)
@@ -112,19 +114,43 @@ low a l = omega arith
 less : (x n k : ℕ) → x < n → n ≤ k → x < k
 less x n k h l = omega arith
 
-pub direct : (len a : ℕ) → ramLength len ≡ true → a < 0x1_0000_0000 → index a < len / 4 → placeOf a 4 false len ≡ At (record { 0 = index a * 4 })
-unfolding placeOf segmentOf
-direct len a ok l h =
+outside : (x n : ℕ) → n / 4 ≤ x / 4 + x % 4 * 0x4000_0000 → x % 4 ≡ 0 → n % 4 ≡ 0 → n ≤ x
+outside x n h d w = omega arith
+
+four-of : (a : ℕ) → a % 4 ≡ 0 → a % 0x8000_0000 % 4 ≡ 0
+four-of a d = omega arith
+
+-- where the number is below the count of RAM's words, the address is a word's in RAM
+pub direct : (len a : ℕ) → ramLength len ≡ true → index a < len / 4 → Direct.At (record { 0 = index a * 4 }) ≡ directOf a len
+unfolding wordInRam
+direct len a ok h =
     let n = short len ok in
     let d = whole (a % 0x8000_0000) len h n in
     let i = inside (a % 0x8000_0000) len h d in
     let u = less (a % 0x8000_0000) len 2097152 i n in
-    rw (eq-eqb _ _ (by-four a d), in-kernel a (eqb (a / 0x2000_0000) 0) refl l (top a u), low a u, lt-ltb _ _ i, back (a % 0x8000_0000) d)
+    rw (eq-eqb _ _ (by-four a d), lt-ltb _ _ i, low a u, back (a % 0x8000_0000) d)
 
--- an answer of the test that is a place is the place
-found-by : (b : Bool) (q : Place) (p : Phys) → cond b q Bus ≡ At p → q ≡ At p
-found-by true q p e = e
-found-by false q p e = let z : _≡_ {A = ℕ} 0 1 = cc in absurd (omega arith)
+-- where it is not, no such word stands there
+elsewhere-by : (b : Bool) (len a : ℕ) → eqb (a % 4) 0 ≡ b → len % 4 ≡ 0 → len / 4 ≤ index a → Direct.Elsewhere ≡ cond (b && ltb (a % 0x8000_0000) len) (Direct.At (physicalOf a)) Direct.Elsewhere
+elsewhere-by true len a e w h = rw (le-ltb _ _ (outside (a % 0x8000_0000) len h (four-of a (eqb-true _ 0 e)) w))
+elsewhere-by false len a e w h = refl
 
-pub found : (a len : ℕ) (p : Phys) (r : Place) → r ≡ cond (ltb (index a) (len / 4)) (placeOf a 4 false len) Bus → r ≡ At p → placeOf a 4 false len ≡ At p
-found a len p r e h = found-by (ltb (index a) (len / 4)) (placeOf a 4 false len) p (sym e ∙ h)
+pub elsewhere : (len a : ℕ) → ramLength len ≡ true → len / 4 ≤ index a → Direct.Elsewhere ≡ directOf a len
+unfolding ramLength wordInRam
+elsewhere len a ok h = elsewhere-by (eqb (a % 4) 0) len a refl (eqb-true _ 0 (and-eq-true-iff _ _ .0 ok .0)) h
+
+-- the place of such a word, in kernel mode
+placed-by : (b d : Bool) (len a : ℕ) (p : Phys) → eqb (a % 4) 0 ≡ b → ltb (a % 0x8000_0000) len ≡ d → len ≤ 2097152 → a < 0x1_0000_0000 → cond (b && d) (Direct.At (physicalOf a)) Direct.Elsewhere ≡ Direct.At p → placeOf a 4 false len ≡ At p
+unfolding placeOf segmentOf
+placed-by true true len a p e f n l h =
+    let i = ltb-true _ len f in
+    let u = less (a % 0x8000_0000) len 2097152 i n in
+    let q : physicalOf a ≡ p = cc in
+    let g : ltb (a % 0x2000_0000) len ≡ true = rw (low a u) f in
+    rw (e, in-kernel a (eqb (a / 0x2000_0000) 0) refl l (top a u), g) (ap At q)
+placed-by true false len a p e f n l h = let z : _≡_ {A = ℕ} 0 1 = cc in absurd (omega arith)
+placed-by false d len a p e f n l h = let z : _≡_ {A = ℕ} 0 1 = cc in absurd (omega arith)
+
+pub placed : (len a : ℕ) (p : Phys) (r : Direct) → ramLength len ≡ true → a < 0x1_0000_0000 → r ≡ directOf a len → r ≡ Direct.At p → placeOf a 4 false len ≡ At p
+unfolding wordInRam
+placed len a p r ok l e h = placed-by (eqb (a % 4) 0) (ltb (a % 0x8000_0000) len) len a p refl refl (short len ok) l (sym e ∙ h)

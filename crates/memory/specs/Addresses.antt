@@ -9,6 +9,8 @@ use lib.ListN.{length}
 use Rattle.memory.specs.declared.addresses.Phys.{Phys}
 use Rattle.memory.specs.declared.addresses.Place.{Place}
 use Rattle.memory.specs.declared.addresses.Place.the-variants.{At, Bus, Address}
+use Rattle.memory.specs.declared.addresses.Direct.{Direct}
+use Rattle.memory.specs.declared.addresses.Direct.the-variants as D
 
 -- a RAM length that is run: a multiple of 4 in 4..2,097,152
 unfoldable pub ramLength : ℕ → Bool
@@ -33,3 +35,11 @@ segmentOf a len = cond (mapped a && ltb (a % 0x2000_0000) len) (At (physicalOf a
 -- with KUc = 1 an address with bit 31 set is an address error, and so is one that is not aligned; both before the bus
 unfoldable pub placeOf : ℕ → ℕ → Bool → ℕ → Place
 placeOf a align user len = cond (eqb (a % align) 0) (cond (user && leb 0x8000_0000 a) Address (segmentOf a len)) Address
+
+-- an aligned address in segment 000 or 100 and in RAM: without bit 31 it is below RAM's length, which is at most 2^21
+unfoldable pub wordInRam : ℕ → ℕ → Bool
+wordInRam a len = eqb (a % 4) 0 && ltb (a % 0x8000_0000) len
+
+-- where such a word lies; of any other it says nothing
+abbrev pub directOf : ℕ → ℕ → Direct
+directOf a len = cond (wordInRam a len) (D.At (physicalOf a)) D.Elsewhere

@@ -1,9 +1,9 @@
 // Addresses: segments, alignment, and where in RAM an address lies.
 ghost use mathlib.Core.Path.{_≡_};
 ghost use Prim.Native.Nat.{_+_, _*_, _/_, _%_, _<_};
-ghost use mathlib.Core.Bool.{true, false, cond, _&&_};
-ghost use lib.Dec.{ltb, leb};
-ghost use Rattle.memory.specs.Addresses.{ramLength, mapped, segmentOf, placeOf};
+ghost use mathlib.Core.Bool.{true, _&&_};
+ghost use lib.Dec.{leb};
+ghost use Rattle.memory.specs.Addresses.{ramLength, mapped, segmentOf, placeOf, directOf};
 
 // A virtual address.
 pub struct Virt(pub u32);
@@ -16,6 +16,12 @@ pub enum Place {
     At(Phys),
     Bus,
     Address,
+}
+
+// A word that one test finds in RAM, or not: then `locate` tells where it lies.
+pub(crate) enum Direct {
+    At(Phys),
+    Elsewhere,
 }
 
 // A RAM length that is run.
@@ -66,16 +72,17 @@ fn word_index(a: u32) -> u32
     x / 4 + x % 4 * 0x4000_0000
 }
 
-// The segment translation of a word in kernel mode, by one test. Where the test does not find it in RAM, `locate` tells why.
-pub(crate) fn translate_word(v: Virt, len: usize) -> Place
+// The segment translation of a word that is fetched or loaded in kernel mode, by one test: most words lie in RAM.
+pub(crate) fn translate_word(v: Virt, len: usize) -> Direct
     requires { ⌜ ramLength len ≡ true ⌝ }
-    ensures { λ r. ⌜ r ≡ cond (ltb (v .0 % 0x8000_0000 / 4 + v .0 % 0x8000_0000 % 4 * 0x4000_0000) (len / 4)) (placeOf (v .0) 4 false len) Place.Bus ⌝ }
+    ensures is { λ r. ⌜ r ≡ directOf (v .0) len ⌝ }
+    ensures word { λ _. ⌜ v .0 < 0x1_0000_0000 ⌝ }
 {
     let k = word_index(v.0);
     if (k as usize) < len / 4 {
-        Place::At(Phys(k * 4))
+        Direct::At(Phys(k * 4))
     } else {
-        Place::Bus
+        Direct::Elsewhere
     }
 }
 

@@ -4,6 +4,7 @@ ghost use Prim.Native.Nat.{_+_, _%_, _<_, _≤_};
 ghost use lib.ListN.{length};
 ghost use Rattle.memory.specs.Addresses.{RamOk, placeOf};
 ghost use Rattle.memory.specs.Loads.{loadAlign, halfAt, leftOf, rightOf, readOf, loadOf};
+use crate::addresses::Direct;
 use crate::addresses::Place;
 use crate::addresses::Virt;
 use crate::addresses::locate;
@@ -127,7 +128,7 @@ fn load_word(ram: &[u8], v: Virt, user: bool, old: u32) -> Loaded
         return load_at(LoadKind::Word, ram, v, user, old);
     }
     let q = translate_word(v, ram.len());
-    if let Place::At(p) = q {
+    if let Direct::At(p) = q {
         return Loaded::Value(word_at(ram, p.0 as usize));
     }
     load_at(LoadKind::Word, ram, v, user, old)

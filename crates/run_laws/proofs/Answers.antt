@@ -4,52 +4,55 @@ use native.Mathlib.Omega.{arith}
 use mathlib.Core.Bool.{Bool, true, false, cond, _||_}
 use mathlib.Core.List.{List}
 use mathlib.Core.Path.{_≡_, refl, sym, ap, _∙_}
-use lib.Dec.{eqb, leb}
+use lib.Dec.{eqb}
 use lib.ListN.{length}
-use borrow.Author.Tests.{eq-eqb, le-leb, leb-true}
 use Rattle.cpu_state.specs.State.{State}
 use Rattle.memory.specs.Addresses.{ramLength}
-use Rattle.image.specs.Formed.{wellFormed}
 use Rattle.image.specs.Image.{machineOf, imageOf}
-use Rattle.run.specs.Run.{Run, ran, runOf}
-use Rattle.fliskadee.specs.Find.{Answer, answer, packed, unlessRefused}
+use Rattle.run.specs.Run.{Run, runOf}
+use Rattle.run.specs.Search.{searchOf}
+use Rattle.fliskadee.specs.Find.{Answer, answer, packed, findOf}
 use Rattle.fliskadee.specs.Answer.{codeOf, finished, answerOf}
-use Rattle.image.specs.Refusals.{mostSteps, afterFormed, refusalOf}
+use Rattle.image.specs.Refusals.{mostSteps, refusalOf}
+use Rattle.image.proofs.Refusals.{admitted}
 use Rattle.step_laws.specs.Formed.{StateFormed}
-use Rattle.run_laws.specs.Runs.{joined, Accepted, codeIn, stepsIn, Again, AcceptedAgain, Cut, CutInTwo}
+use Rattle.run_laws.specs.Runs.{joined, Accepted, codeIn, stepsIn, Again, AcceptedAgain, FoundAgain, Cut, CutInTwo}
 use Rattle.run_laws.proofs.Machine.{machine-formed, machine-back, image-accepted}
-use Rattle.run_laws.proofs.Joins.{Going, run-going, run-formed, then-more}
+use Rattle.run_laws.proofs.Joins.{run-going, run-formed, then-more}
+use Rattle.run_laws.proofs.Searches.{search-exact}
 
--- ---- a call with an accepted image
-abbrev pub afterRefusals : List ℕ → List ℕ → ℕ → Bool → Bool → Answer
-afterRefusals m ram count b d = unlessRefused (cond b (cond d 0 4) 3) m ram (finished (runOf count (machineOf m ram)))
+-- ---- a call that is not refused
+pub answer-run : (m ram : List ℕ) (count : ℕ) → refusalOf m (length ram) count ≡ 0 → answerOf m ram count ≡ finished (runOf count (machineOf m ram))
+unfolding answerOf
+answer-run m ram count h = rw h
 
-pub accepted-is : (m ram : List ℕ) (count : ℕ) → Accepted m → answerOf m ram count ≡ afterRefusals m ram count (ramLength (length ram)) (leb count mostSteps)
-unfolding answerOf refusalOf afterFormed
-accepted-is m ram count a = rw (eq-eqb _ _ (a .long), a .formed)
-
-pub answer-run : (m ram : List ℕ) (count : ℕ) → Accepted m → ramLength (length ram) ≡ true → count ≤ mostSteps → answerOf m ram count ≡ finished (runOf count (machineOf m ram))
-answer-run m ram count a ok h = accepted-is m ram count a ∙ rw (ok, le-leb count mostSteps h)
+pub admitted-for : (m ram : List ℕ) (count : ℕ) → Accepted m → ramLength (length ram) ≡ true → count ≤ mostSteps → refusalOf m (length ram) count ≡ 0
+admitted-for m ram count a ok h = admitted m (length ram) count (record { long = a .long; formed = a .formed; ok = ok; most = h })
 
 -- ---- accepted again
 pub machine-at : (m ram : List ℕ) (count : ℕ) → Accepted m → StateFormed (runOf count (machineOf m ram) .last)
 machine-at m ram count a = run-formed count (machineOf m ram) (machine-formed m ram a)
 
-record Kept (m ram : List ℕ) (x : Answer) : Type 0 where
-  accepted : Accepted (x .image)
-  long : length (x .ram) ≡ length ram
-
-kept-by : (b d : Bool) (m ram : List ℕ) (count : ℕ) → Accepted m → Kept m ram (afterRefusals m ram count b d)
-kept-by true true m ram count a =
-    record { accepted = image-accepted _ (machine-at m ram count a); long = run-going count (machineOf m ram) .long }
-kept-by true false m ram count a = record { accepted = a; long = refl }
-kept-by false d m ram count a = record { accepted = a; long = refl }
+-- a refused call leaves what it was given
+again-by : (b : Bool) (m ram : List ℕ) (n : ℕ) (x : Answer) → Accepted m → Again ram x → Again ram (cond b x (answer n m ram))
+again-by true m ram n x a h = h
+again-by false m ram n x a h = record { accepted = a; long = refl }
 
 pub accepted-again : AcceptedAgain
+unfolding answerOf
 accepted-again m ram count a =
-    let k = kept-by (ramLength (length ram)) (leb count mostSteps) m ram count a in
-    let e = accepted-is m ram count a in
-    record { accepted = rw e (k .accepted); long = rw e (k .long) }
+    again-by (eqb (refusalOf m (length ram) count) 0) m ram _ _ a
+    (record { accepted = image-accepted _ (machine-at m ram count a); long = run-going count (machineOf m ram) .long })
+
+-- a search stands where a run of as many steps does
+pub found-again : FoundAgain
+unfolding findOf
+found-again m ram count mask a =
+    let s = machineOf m ram in
+    let r = searchOf mask count s in
+    let e : runOf (r .steps) s .last ≡ r .last = ap (λ (x : Run). x .last) (search-exact mask count s .reached) in
+    again-by (eqb (refusalOf m (length ram) count) 0) m ram _ _ a
+    (record { accepted = image-accepted (r .last) (rw (← e) (machine-at m ram (r .steps) a)); long = rw (← e) (run-going (r .steps) s .long) })
 
 -- ---- the number, taken apart
 pub steps-packed : (b : Bool) (n : ℕ) → n < 1048576 → packed (codeOf b) n % 1048576 ≡ n
@@ -84,8 +87,8 @@ cut-in-two m ram a b acc ok h =
     let g = machine-at m ram a acc in
     let q = runOf b (r .last) in
     let kept : ramLength (length (r .last .ram)) ≡ true = rw (run-going a s .long) ok in
-    let first : answerOf m ram a ≡ finished r = answer-run m ram a acc ok (omega arith) in
+    let first : answerOf m ram a ≡ finished r = answer-run m ram a (admitted-for m ram a acc ok (omega arith)) in
     let second : answerOf (imageOf (r .last)) (r .last .ram) b ≡ finished q =
-    answer-run (imageOf (r .last)) (r .last .ram) b (image-accepted (r .last) g) kept (omega arith) ∙ ap (λ (t : State). finished (runOf b t)) (machine-back (r .last) g) in
-    let whole : answerOf m ram (a + b) ≡ finished (joined r q) = answer-run m ram (a + b) acc ok h ∙ ap finished (then-more a b s) in
+    answer-run (imageOf (r .last)) (r .last .ram) b (admitted-for (imageOf (r .last)) (r .last .ram) b (image-accepted (r .last) g) kept (omega arith)) ∙ ap (λ (t : State). finished (runOf b t)) (machine-back (r .last) g) in
+    let whole : answerOf m ram (a + b) ≡ finished (joined r q) = answer-run m ram (a + b) (admitted-for m ram (a + b) acc ok h) ∙ ap finished (then-more a b s) in
     rw (first, whole, second) (cut-runs r q a b h (run-going a s .most) (run-going b (r .last) .most))

@@ -13,7 +13,8 @@ use Rattle.cpu_step.specs.Step.{stepOf}
 use Rattle.run.specs.Run.{Run, ran, further, onwards, runOf}
 use Rattle.step_laws.specs.Formed.{StateFormed}
 use Rattle.step_laws.proofs.Formed.{step-formed}
-use Rattle.step_laws.proofs.Kept.{Kept, step-kept}
+use Rattle.step_laws.specs.Kept.{Kept}
+use Rattle.step_laws.proofs.Kept.{step-kept}
 use Rattle.run_laws.specs.Runs.{OneMore, joined, ThenMore}
 
 pub one-more : OneMore

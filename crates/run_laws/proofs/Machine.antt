@@ -15,7 +15,7 @@ use Rattle.image.specs.Formed.{formed, wellFormed}
 use Rattle.image.proofs.Facts.{Formed, formed-in, formed-out}
 use Rattle.image.proofs.Whole.{Back, back}
 use Rattle.step_laws.specs.Formed.{Only, RegistersFormed, PendingFormed, SystemFormed, StateFormed}
-use Rattle.run_laws.specs.Runs.{Accepted}
+use Rattle.run_laws.specs.Runs.{Accepted, ImageDescribes}
 
 reads-long : (w : List ℕ) → length (reads w) ≡ 64
 unfolding reads
@@ -75,3 +75,6 @@ image-accepted s g =
             geometry = g .geometry;
           }));
     }
+
+pub image-describes : ImageDescribes
+image-describes s g = record { accepted = image-accepted s g; back = machine-back s g }

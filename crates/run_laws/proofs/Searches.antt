@@ -2,7 +2,7 @@
 use Prim.Native.Nat.{ℕ, zero, suc, _+_, _<_, _≤_}
 use native.Mathlib.Numerals.{add-one}
 use native.Mathlib.Omega.{arith}
-use mathlib.Core.Bool.{Bool, true, false, cond}
+use mathlib.Core.Bool.{Bool, true, false, cond, _||_}
 use mathlib.Core.Path.{_≡_, refl, sym, ap, ap₂, _∙_}
 use lib.Dec.{eqb}
 use borrow.Author.Tests.{eqb-true, eqb-false}
@@ -22,33 +22,52 @@ none : (mask : ℕ) (s : State) → Searched mask 0 s (sought 0 0 s)
 unfolding runOf
 none mask s =
     record {
+      codes = refl;
+      most = omega arith;
       reached = refl;
       before = λ i h. absurd (omega arith);
       last-step = λ i e. absurd (omega arith);
       all = λ e. refl;
       stopped = λ e. never 0 5 e (omega arith);
+      found = λ e. never 0 16 e (omega arith);
     }
 
 -- the search had ended
 ended : (mask n : ℕ) (s : State) (r : Search) → eqb (r .code) 0 ≡ false → Searched mask n s r → Searched mask (suc n) s r
 ended mask n s r e g =
-    record { reached = g .reached; before = g .before; last-step = g .last-step; all = λ h. absurd (eqb-false _ _ e h); stopped = g .stopped }
+    record {
+      codes = g .codes;
+      most = omega (arith, g .most);
+      reached = g .reached;
+      before = g .before;
+      last-step = g .last-step;
+      all = λ h. absurd (eqb-false _ _ e h);
+      stopped = λ h. (omega (arith, g .stopped h .0), g .stopped h .1);
+      found = g .found;
+    }
 
 -- it goes on, and the machine stops
 halted : (mask n : ℕ) (s : State) (r : Search) → r .code ≡ 0 → Searched mask n s r → stepOf (r .last) .stop ≡ true → Searched mask (suc n) s (sought 5 (r .steps) (stepOf (r .last) .after))
 halted mask n s r z g h =
     let same : stepOf (r .last) .after ≡ r .last = step-kept (r .last) .stays h in
     record {
+      codes = refl;
+      most = omega (arith, g .most);
       reached = rw same (g .reached);
       before = g .before;
       last-step = λ i e. g .last-step i e ∙ ap (λ (c : ℕ). eqb c 16) z;
       all = λ e. never 0 5 (sym e) (omega arith);
-      stopped = λ e. rw same h;
+      stopped = λ e. (omega (arith, g .most), rw same h);
+      found = λ e. never 5 16 e (omega arith);
     }
 
 found-16 : (x : Bool) → eqb (foundOf x) 16 ≡ x
 found-16 true = refl
 found-16 false = refl
+
+found-codes : (x : Bool) → (eqb (foundOf x) 0 || (eqb (foundOf x) 5 || eqb (foundOf x) 16)) ≡ true
+found-codes true = refl
+found-codes false = refl
 
 not-5 : {A : Type 0} (x : Bool) → foundOf x ≡ 5 → A
 not-5 true h = never 5 16 (sym h) (omega arith)
@@ -70,11 +89,14 @@ went mask n s r z g h =
     let at : risesAt mask s (r .steps) ≡ x =
     ap₂ (risesOf mask) (ap (λ (q : Run). q .last) (g .reached)) (ap (λ (k : ℕ). runOf k s .last) (sym (add-one (r .steps))) ∙ ap (λ (q : Run). q .last) on) in
     record {
+      codes = found-codes x;
+      most = let k = g .all z in omega arith;
       reached = on;
       before = λ i l. quiet mask n s r z g i (omega arith);
       last-step = λ i e. let k : i ≡ r .steps = omega arith in ap (risesAt mask s) k ∙ at ∙ sym (found-16 x);
       all = λ e. let k = g .all z in omega arith;
       stopped = λ e. not-5 x e;
+      found = λ e. omega arith;
     }
 
 further-by : (b : Bool) (mask n : ℕ) (s : State) (r : Search) → stepOf (r .last) .stop ≡ b → r .code ≡ 0 → Searched mask n s r → Searched mask (suc n) s (cond b (sought 5 (r .steps) (stepOf (r .last) .after)) (sought (foundOf (risesOf mask (r .last) (stepOf (r .last) .after))) (r .steps + 1) (stepOf (r .last) .after)))

@@ -4,20 +4,23 @@ use native.Mathlib.Omega.{arith}
 use mathlib.Core.Bool.{Bool, true, false, cond}
 use mathlib.Core.List.{List, _++_}
 use mathlib.Core.Path.{_≡_, refl, sym, ap, _∙_}
+use lib.Dec.{eqb}
 use lib.ListN.{length, getD}
+use borrow.Author.Tests.{eqb-true}
 use Rattle.byte_order.specs.Bytes.{wordsAt, bytesOf}
 use Rattle.byte_order.proofs.Rows.{read-append, bytes-back}
-use Rattle.memory.specs.Addresses.{ramLength}
 use Rattle.cpu_state.specs.State.{State}
 use Rattle.cpu_perform.specs.Perform.{Tick}
 use Rattle.cpu_step.specs.Step.{stepOf}
 use Rattle.image.specs.Image.{registersIn, controlIn, geometryIn, controlOf, controlWords, machineOf, imageOf}
 use Rattle.image.proofs.Facts.{formed-in}
 use Rattle.run.specs.Run.{Run, ran, further, onwards, runOf}
+use Rattle.fliskadee.specs.Find.{answer}
 use Rattle.fliskadee.specs.Answer.{finished, answerOf}
-use Rattle.image.specs.Refusals.{mostSteps}
+use Rattle.image.specs.Refusals.{mostSteps, refusalOf}
+use Rattle.image.proofs.Refusals.{passed}
 use Rattle.step_laws.proofs.Kept.{step-kept}
-use Rattle.run_laws.specs.Runs.{Accepted, stepsIn, Bytes, NothingDone}
+use Rattle.run_laws.specs.Runs.{Accepted, stepsIn, Bytes, CountZero, NothingDone}
 use Rattle.run_laws.proofs.Joins.{run-going}
 use Rattle.run_laws.proofs.Answers.{answer-run, steps-packed}
 
@@ -46,12 +49,24 @@ still zero s z = refl
 still (suc n) s z =
     still-by (runOf n s .stop) (stepOf (runOf n s .last) .stop) (runOf n s) (stepOf (runOf n s .last)) s refl refl (step-kept (runOf n s .last) .stays) (still n s) z
 
-pub nothing-done : NothingDone
-nothing-done m ram count b a ok h z =
+-- a refused call changes nothing, and one that completes no step leaves the machine that was read
+unmoved-by : (t : Bool) (m ram : List ℕ) (count n : ℕ) → Bytes m → Accepted m → eqb (refusalOf m (length ram) count) 0 ≡ t → stepsIn (cond t (finished (runOf count (machineOf m ram))) (answer n m ram)) ≡ 0 → (cond t (finished (runOf count (machineOf m ram))) (answer n m ram) .image ≡ m) × (cond t (finished (runOf count (machineOf m ram))) (answer n m ram) .ram ≡ ram)
+unmoved-by true m ram count n b a e z =
     let s = machineOf m ram in
     let r = runOf count s in
-    let e : answerOf m ram count ≡ finished r = answer-run m ram count a ok h in
+    let most = passed m (length ram) count (eqb-true _ 0 e) .most in
     let small : r .steps < 1048576 = omega (arith, run-going count s .most) in
-    let none : r .steps ≡ 0 = sym (steps-packed (r .stop) (r .steps) small) ∙ (rw e at z) in
+    let none : r .steps ≡ 0 = sym (steps-packed (r .stop) (r .steps) small) ∙ z in
     let l : r .last ≡ s = still count s none in
-    rw (e, l) (image-same m ram b a, refl)
+    rw l (image-same m ram b a, refl)
+unmoved-by false m ram count n b a e z = (refl, refl)
+
+pub nothing-done : NothingDone
+unfolding answerOf
+nothing-done m ram count b a z = unmoved-by (eqb (refusalOf m (length ram) count) 0) m ram count _ b a refl z
+
+pub count-zero : CountZero
+unfolding runOf
+count-zero m ram b h =
+    let p = passed m (length ram) 0 h in
+    answer-run m ram 0 h ∙ ap (λ (i : List ℕ). answer 0 i ram) (image-same m ram b (record { long = p .long; formed = p .formed }))

@@ -1,4 +1,4 @@
--- Demand 3 over runs, in whole numbers (01 "GTE arithmetic").
+-- Demands 2 and 3 over runs, demand 3 in whole numbers (01 "GTE arithmetic").
 use mathlib.Core.Bool.{true, false}
 use mathlib.Core.List.{List}
 use mathlib.Core.Path.{_≡_}
@@ -11,11 +11,14 @@ use Rattle.memory.specs.declared.loads.Loaded.the-variants.{Value}
 use Rattle.cpu_state.specs.System.{usableOf}
 use Rattle.cpu_state.specs.State.{State}
 use Rattle.cpu_perform.specs.Perform.{loaded}
+use Rattle.cpu_step.specs.Step.{stepOf}
 use Rattle.words.specs.Words.{bitAt}
 use Rattle.gte_registers.specs.Registers.{reg}
-use Rattle.gte.specs.Commands.{commandIn, sfOf}
+use Rattle.gte.specs.Commands.{commandIn, sfOf, outcomeOf}
+use Rattle.gte.specs.declared.Outcome.the-variants.{Done}
+use Rattle.gte_laws.specs.Exact.{checksAt, condition}
 use Rattle.gte_laws.specs.Demand.{tolerance, Near, Goes}
-use Rattle.image.specs.Image.{geometryIn, machineOf}
+use Rattle.image.specs.Image.{geometryIn, machineOf, imageOf}
 use Rattle.fliskadee.specs.Answer.{answerOf}
 use Rattle.run_laws.specs.Runs.{Accepted, stepsIn}
 
@@ -26,9 +29,24 @@ pub record CarriesOut (word : ℕ) (s : State) : Type 0 where
   pub command : decodeOf word ≡ Command
 
 -- Step k + 1 of any run from an accepted image that the run completes, n being the run's count: the image before the step is what
--- a run from the same start leaves with count k, the image after it what one leaves with count k + 1. The step carries out RTPS
--- or RTPT with sf = 1, and bit 31 of register 63 is clear after it. Then each vertex v, which went to register r, is near its exact
--- place, which `Near` works out from the registers before.
+-- a run from the same start leaves with count k, the image after it what one leaves with count k + 1.
+
+-- Demand 2. Image and RAM after the step are one step of 01 from those before; and where the step carries out a listed command, each
+-- bit of FLAG is set exactly under its named condition, worked out from the registers before.
+pub record StepExact (m ram : List ℕ) (k : ℕ) : Type 0 where
+  pub goes : stepOf (machineOf (answerOf m ram k .image) (answerOf m ram k .ram)) .stop ≡ false
+  pub image : answerOf m ram (suc k) .image ≡ imageOf (stepOf (machineOf (answerOf m ram k .image) (answerOf m ram k .ram)) .after)
+  pub ram-after : answerOf m ram (suc k) .ram ≡ stepOf (machineOf (answerOf m ram k .image) (answerOf m ram k .ram)) .after .ram
+  pub flag : (word b : ℕ)
+      → CarriesOut word (machineOf (answerOf m ram k .image) (answerOf m ram k .ram))
+      → outcomeOf word ≡ Done
+      → bitAt b (reg (geometryIn (answerOf m ram (suc k) .image)) 63) ≡ condition b (checksAt word (geometryIn (answerOf m ram k .image)))
+
+abbrev pub Demand2 : Type 0
+Demand2 = (m ram : List ℕ) (n k : ℕ) → Accepted m → suc k ≤ stepsIn (answerOf m ram n) → StepExact m ram k
+
+-- Demand 3. The step carries out RTPS or RTPT with sf = 1, and bit 31 of register 63 is clear after it. Then each vertex v, which
+-- went to register r, is near its exact place, which `Near` works out from the registers before.
 abbrev pub Demand3 : Type 0
 Demand3 =
     (m ram : List ℕ) (n k word v r : ℕ)

@@ -1,4 +1,4 @@
--- Laws of runs: one step more, a steps and then b, and an accepted image is accepted again (demand 1).
+-- Laws of runs: one step more, a steps and then b, an accepted image is accepted again (demand 1), and count 0.
 use mathlib.Core.Bool.{Bool, true, cond, _||_}
 use mathlib.Core.List.{List}
 use mathlib.Core.Path.{_≡_}
@@ -7,12 +7,13 @@ use lib.Dec.{eqb}
 use lib.ListN.{length, getD}
 use Rattle.cpu_state.specs.State.{State}
 use Rattle.memory.specs.Addresses.{ramLength}
-use Rattle.image.specs.Image.{imageLength}
+use Rattle.image.specs.Image.{imageLength, machineOf, imageOf}
 use Rattle.image.specs.Formed.{wellFormed}
+use Rattle.step_laws.specs.Formed.{StateFormed}
 use Rattle.run.specs.Run.{Run, ran, onwards, runOf}
-use Rattle.fliskadee.specs.Find.{Answer}
+use Rattle.fliskadee.specs.Find.{Answer, answer, findOf}
 use Rattle.fliskadee.specs.Answer.{answerOf}
-use Rattle.image.specs.Refusals.{mostSteps}
+use Rattle.image.specs.Refusals.{mostSteps, refusalOf}
 
 -- ---- on machines
 
@@ -34,6 +35,14 @@ pub record Accepted (m : List ℕ) : Type 0 where
   pub long : length m ≡ imageLength
   pub formed : wellFormed m ≡ true
 
+-- the image of a machine that an accepted image describes is accepted, and describes that machine
+pub record Described (s : State) : Type 0 where
+  pub accepted : Accepted (imageOf s)
+  pub back : machineOf (imageOf s) (s .ram) ≡ s
+
+abbrev pub ImageDescribes : Type 0
+ImageDescribes = (s : State) → StateFormed s → Described s
+
 -- the answer's number, taken apart
 abbrev pub codeIn : Answer → ℕ
 codeIn a = a .number / 1048576
@@ -41,13 +50,17 @@ codeIn a = a .number / 1048576
 abbrev pub stepsIn : Answer → ℕ
 stepsIn a = a .number % 1048576
 
--- every call leaves an accepted image accepted, and RAM as long as it was
-pub record Again (m ram : List ℕ) (count : ℕ) : Type 0 where
-  pub accepted : Accepted (answerOf m ram count .image)
-  pub long : length (answerOf m ram count .ram) ≡ length ram
+-- an answer leaves an accepted image, and RAM as long as it was
+pub record Again (ram : List ℕ) (a : Answer) : Type 0 where
+  pub accepted : Accepted (a .image)
+  pub long : length (a .ram) ≡ length ram
 
+-- every call of the run leaves an accepted image accepted, and so does every search for a bit of FLAG
 abbrev pub AcceptedAgain : Type 0
-AcceptedAgain = (m ram : List ℕ) (count : ℕ) → Accepted m → Again m ram count
+AcceptedAgain = (m ram : List ℕ) (count : ℕ) → Accepted m → Again ram (answerOf m ram count)
+
+abbrev pub FoundAgain : Type 0
+FoundAgain = (m ram : List ℕ) (count mask : ℕ) → Accepted m → Again ram (findOf m ram count mask)
 
 -- a steps and then b from what they left are a + b steps: in image, RAM, steps and code
 pub record Cut (first second whole : Answer) : Type 0 where
@@ -68,13 +81,15 @@ CutInTwo =
 abbrev pub Bytes : List ℕ → Type 0
 Bytes m = (i : ℕ) → getD m i 0 < 256
 
--- count 0 answers 0 and changes nothing, and so does a run that stops before its first step but for its code
+-- "If none of 1 to 4 applies, count 0 answers 0 and changes nothing."
+abbrev pub CountZero : Type 0
+CountZero = (m ram : List ℕ) → Bytes m → refusalOf m (length ram) 0 ≡ 0 → answerOf m ram 0 ≡ answer 0 m ram
+
+-- a run that completes no step, as one that stops before its first, changes nothing
 abbrev pub NothingDone : Type 0
 NothingDone =
     (m ram : List ℕ) (count : ℕ)
     → Bytes m
     → Accepted m
-    → ramLength (length ram) ≡ true
-    → count ≤ mostSteps
     → stepsIn (answerOf m ram count) ≡ 0
     → (answerOf m ram count .image ≡ m) × (answerOf m ram count .ram ≡ ram)

@@ -44,7 +44,7 @@ use Rattle.cpu_effects.specs.Jumps.{jumpStep, linkStep}
 use Rattle.cpu_effects.specs.Traps.{trapStep, faultStep}
 use Rattle.cpu_perform.specs.Perform.{Tick, tick, geometryStep, loaded, afterLoad, loadStep, loadGeometryStep, afterStore, storeStep, performOf}
 use Rattle.cpu_step.specs.Step.{afterCommand, commandStep, issueOf, afterFetch, stepOf}
-use Rattle.step_laws.specs.Formed.{Only, RegistersFormed, PendingFormed, SystemFormed, StateFormed}
+use Rattle.step_laws.specs.Formed.{Only, RegistersFormed, PendingFormed, SystemFormed, StateFormed, StepFormed}
 use Rattle.step_laws.proofs.Masks.{masked, sr-low, cause-raised, cause-written}
 
 -- ---- registers
@@ -217,6 +217,6 @@ fetch-formed s g (L.Value word) = issue-formed word s g
 fetch-formed s g L.Bus = trap-formed s g 6 0
 fetch-formed s g L.Address = fault-formed s g 4 (s .control .flow .pc)
 
-pub step-formed : (s : State) → StateFormed s → StateFormed (stepOf s .after)
+pub step-formed : StepFormed
 unfolding stepOf
 step-formed s g = fetch-formed s g (loaded K.Word 0 (s .control .flow .pc) s)

@@ -33,6 +33,7 @@ use Rattle.cpu_effects.specs.Delay.{currentOf}
 use Rattle.cpu_effects.specs.Effects.{nextStep, writeStep, productStep, systemStep, waitStep}
 use Rattle.cpu_effects.specs.Jumps.{jumpStep, linkStep}
 use Rattle.cpu_effects.specs.Traps.{trapStep, faultStep}
+use Rattle.step_laws.specs.Kept.{Kept, StepKept}
 use Rattle.step_laws.proofs.Formed.{effectOf}
 use Rattle.cpu_perform.specs.Perform.{Tick, tick, geometryStep, loaded, afterLoad, loadStep, loadGeometryStep, afterStore, storeStep, performOf}
 use Rattle.cpu_step.specs.Step.{afterCommand, commandStep, issueOf, afterFetch, stepOf}
@@ -92,10 +93,6 @@ goes t s h = let z : _≡_ {A = Bool} true false = sym h in absurd (bool-apart z
   bool-apart : _≡_ {A = Bool} true false → ⊥
   bool-apart z = let n : _≡_ {A = ℕ} 0 1 = ap (λ (b : Bool). cond b 0 1) z in omega arith
 
-pub record Kept (t : Tick) (s : State) : Type 0 where
-  pub long : Keeps (t .after) s
-  pub stays : Stays t s
-
 going : (t s : State) → Keeps t s → Kept (tick false t) s
 going t s h = record { long = h; stays = goes t s }
 
@@ -141,6 +138,6 @@ fetch-kept s (L.Value word) = issue-kept word s
 fetch-kept s L.Bus = going _ s (trap-long 6 0 s)
 fetch-kept s L.Address = going _ s (fault-long 4 (s .control .flow .pc) s)
 
-pub step-kept : (s : State) → Kept (stepOf s) s
+pub step-kept : StepKept
 unfolding stepOf
 step-kept s = fetch-kept s (loaded K.Word 0 (s .control .flow .pc) s)

@@ -2,3 +2,4 @@ pub mod Figures
 pub mod Masks
 pub mod Formed
 pub mod Kept
+pub mod Cop0

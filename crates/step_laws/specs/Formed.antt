@@ -8,6 +8,7 @@ use Rattle.gte_registers.specs.Registers.{WellFormed}
 use Rattle.cpu_state.specs.declared.control.Pending.{Pending}
 use Rattle.cpu_state.specs.declared.control.System.{System}
 use Rattle.cpu_state.specs.State.{State}
+use Rattle.cpu_step.specs.Step.{stepOf}
 
 -- x has only bits of m
 abbrev pub Only : ℕ → ℕ → Type 0
@@ -33,3 +34,6 @@ pub record StateFormed (s : State) : Type 0 where
   pub slot : s .control .flow .slot ≤ 1
   pub system : SystemFormed (s .control .system)
   pub geometry : WellFormed (s .geometry)
+
+abbrev pub StepFormed : Type 0
+StepFormed = (s : State) → StateFormed s → StateFormed (stepOf s .after)

@@ -1,2 +1,4 @@
+pub mod Cop0
 pub mod Figures
 pub mod Formed
+pub mod Kept

@@ -110,20 +110,21 @@ each a n len f m s h i lt =
     let r : a % 0x2000_0000 + i < len = omega (arith, s .below) in
     is-in-ram ((a + i) % 0x1_0000_0000) len (record { segment = mapped-top a _ (same-top a i len f r m) (s .segment); below = rw (same-low a i len f r m) r })
 
-from-only : (b : Bool) (at n len : ℕ) → leb n (len - at) ≡ b → 0 < cond b (record { at = at; length = n }) nothing .length → n ≤ len - at
-from-only true at n len e h = leb-true n (len - at) e
+from-only : (b : Bool) (at n len : ℕ) → leb n (len - at) ≡ b → 0 < cond b (record { at = at; length = n }) nothing .length → (0 < n) × (n ≤ len - at)
+from-only true at n len e h = (h, leb-true n (len - at) e)
 from-only false at n len e h = absurd (omega arith)
 
-at-only : (q : Place) (a n len : ℕ) → segmentOf a len ≡ q → a < 0x1_0000_0000 → len ≤ 2097152 → 0 < partAt q n len .length → AllInRam a n len
+at-only : (q : Place) (a n len : ℕ) → segmentOf a len ≡ q → a < 0x1_0000_0000 → len ≤ 2097152 → 0 < partAt q n len .length → (0 < n) × AllInRam a n len
 unfolding partFrom
 at-only (At p) a n len e f m h =
     let s = in-ram a len p e in
-    each a n len f m (s .1) (from-only (leb n (len - a % 0x2000_0000)) (a % 0x2000_0000) n len refl (rw (s .0) at h))
+    let k = from-only (leb n (len - a % 0x2000_0000)) (a % 0x2000_0000) n len refl (rw (s .0) at h) in
+    (k .0, each a n len f m (s .1) (k .1))
 at-only Bus a n len e f m h = absurd (omega arith)
 at-only Address a n len e f m h = absurd (omega arith)
 
-part-only : (b : Bool) (a n len : ℕ) → ramLength len ≡ b → a < 0x1_0000_0000 → 0 < cond b (partAt (segmentOf a len) n len) nothing .length → (ramLength len ≡ true) × AllInRam a n len
-part-only true a n len e f h = (e, at-only (segmentOf a len) a n len refl f (run-most len e) h)
+part-only : (b : Bool) (a n len : ℕ) → ramLength len ≡ b → a < 0x1_0000_0000 → 0 < cond b (partAt (segmentOf a len) n len) nothing .length → (0 < n) × ((ramLength len ≡ true) × AllInRam a n len)
+part-only true a n len e f h = let k = at-only (segmentOf a len) a n len refl f (run-most len e) h in (k .0, (e, k .1))
 part-only false a n len e f h = absurd (omega arith)
 
 -- the window of a virtual address of 32 bits is what 01 says
@@ -131,7 +132,7 @@ pub window-exact : (a n len : ℕ) → a < 0x1_0000_0000 → WindowExact a n len
 unfolding partOf partFrom
 window-exact a n len f =
     record {
-      whole = λ ok some all.
+      whole = λ some ok all.
           let s = first a n len f some all in
           rw (ok, is-in-ram a len s, le-leb _ _ (room a n len (run-most len ok) (s .below) all));
       only = λ h. part-only (ramLength len) a n len refl f h;

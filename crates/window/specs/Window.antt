@@ -43,7 +43,8 @@ InRam a len = segmentOf a len ≡ At (physicalOf a)
 abbrev pub AllInRam : ℕ → ℕ → ℕ → Type 0
 AllInRam a n len = (i : ℕ) → i < n → InRam ((a + i) % 0x1_0000_0000) len
 
--- every byte in RAM of a good length: the whole range, from its first byte on; and nothing else is not empty
+-- "empty exactly when", both ways. Where the length is not 0, the RAM length is good and every byte is in RAM, the part is the whole
+-- range from its first byte on; and where the part is not empty, all three hold.
 pub record WindowExact (a n len : ℕ) : Type 0 where
-  pub whole : ramLength len ≡ true → 0 < n → AllInRam a n len → partOf a n len ≡ record { at = a % 0x2000_0000; length = n }
-  pub only : 0 < windowLength a n len → (ramLength len ≡ true) × AllInRam a n len
+  pub whole : 0 < n → ramLength len ≡ true → AllInRam a n len → partOf a n len ≡ record { at = a % 0x2000_0000; length = n }
+  pub only : 0 < windowLength a n len → (0 < n) × ((ramLength len ≡ true) × AllInRam a n len)

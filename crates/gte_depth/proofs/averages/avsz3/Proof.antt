@@ -13,7 +13,7 @@ returns c =
       c .before .before .average-depth .ensures,
       back w16 (c .before .before .before .before .before .factor3 .result) (c .before .before .before .before .before .factor3 .ok),
       c .before .before .before .before .before .factor3 .ensures,
-      c .before .before .before .three-depths .ensures .0,
+      c .before .before .before .three-depths .ensures,
       inputs-view (c .before .before .before .before .before .before .before .args .c .now),
     )
 

@@ -13,7 +13,7 @@ returns c =
       c .before .before .average-depth .ensures,
       back w16 (c .before .before .before .before .before .factor4 .result) (c .before .before .before .before .before .factor4 .ok),
       c .before .before .before .before .before .factor4 .ensures,
-      c .before .before .before .four-depths .ensures .0,
+      c .before .before .before .four-depths .ensures,
       inputs-view (c .before .before .before .before .before .before .before .args .c .now),
     )
 

@@ -1,4 +1,4 @@
--- A scale of 16 bits times a total of 18 bits fits 64 bits; the flags are those of the checks.
+-- A scale of 16 bits times a word fits 64 bits; the flags are those of the checks.
 use borrow.Author.Needs.{needs}
 use mathlib.Core.Path.{_≡_}
 use Prim.Native.Nat.{ℕ, _<_, _^_}
@@ -24,7 +24,7 @@ record Facts (k : ℤ) (n : ℕ) : Type 0 where
   n64 : toZ w64 n ≡ pos n
   x : SFits w64 (k *ℤ pos n)
 
-facts : (k : ℤ) (n : ℕ) → SFits w16 k → n < 2 ^ 18 → Facts k n
+facts : (k : ℤ) (n : ℕ) → SFits w16 k → n < 2 ^ 32 → Facts k n
 facts k n hk hn =
     record {
       k64 = fit w64 (arg w16 hk) tt;
@@ -33,7 +33,7 @@ facts k n hk hn =
     }
 
 at : (c : tie.Start) → Facts (c .args .zsf) (c .args .total)
-at c = facts _ _ (c .fits .zsf) (c .pre)
+at c = facts _ _ (c .fits .zsf) (c .fits .total .fits)
 
 joined : (k : ℤ) (n : ℕ)
     → let x = k *ℤ pos n in

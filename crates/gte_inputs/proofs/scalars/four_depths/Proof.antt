@@ -1,7 +1,6 @@
 -- Four low halves, each below 2^16.
 use borrow.Author.Needs.{needs}
 use mathlib.Core.Path.{refl}
-use native.Mathlib.Omega.{arith}
 use Rattle.gte_inputs.specs.Inputs.{inputsOf}
 use Rattle.gte_inputs.proofs.scalars.four_depths.Statement.{statement}
 use Rattle.gte_inputs.proofs.scalars.four_depths.Tie as tie
@@ -18,4 +17,4 @@ four-depths-spec =
     (λ c. search needs)
     (λ c. search needs)
     (λ c. search needs)
-    (λ c. (refl, omega arith)))
+    (λ c. refl))

@@ -1,6 +1,5 @@
--- A number below the count of RAM's words is the place of an aligned address.
-use borrow.Author.Tests.{lt-ltb, le-ltb}
-use Rattle.memory.proofs.Places.{short, direct}
+-- A number below the count of RAM's words is the place of an aligned address, and any other is none.
+use Rattle.memory.proofs.Places.{short, direct, elsewhere}
 use borrow.Author.Needs.{needs}
 use Rattle.memory.proofs.addresses.translate_word.Statement.{statement}
 use Rattle.memory.proofs.addresses.translate_word.Tie as tie
@@ -15,10 +14,10 @@ mul-t8 : tie.Need-mul-t8
 mul-t8 c = let h = short _ (c .before .before .pre) in let t = c .if1 .taken in search needs
 
 returns : tie.Need-returns
-returns c = let lt = rw (c .before .word-index .ensures .0) at (c .if1 .taken) in rw (lt-ltb _ _ lt, direct _ _ (c .before .before .pre) (c .before .word-index .ensures .1) lt, c .before .word-index .ensures .0)
+returns c = (rw (c .before .word-index .ensures .0) (direct _ _ (c .before .before .pre) (rw (c .before .word-index .ensures .0) at (c .if1 .taken))), c .before .word-index .ensures .1)
 
 returns-2 : tie.Need-returns-2
-returns-2 c = rw (le-ltb _ _ (rw (c .before .word-index .ensures .0) at (c .if1 .left)))
+returns-2 c = (elsewhere _ _ (c .before .before .pre) (rw (c .before .word-index .ensures .0) at (c .if1 .left)), c .before .word-index .ensures .1)
 
 pub translate-word-spec : {M : Type 1} → statement M
 translate-word-spec = tie.close (tie.spec word-index-requires cast-if1 mul-t8 returns returns-2)

@@ -4,7 +4,7 @@ use lib.ListN.{length}
 use Rattle.memory.specs.Loads.{readOf}
 use Rattle.memory.specs.declared.loads.LoadKind.the-variants.{Word}
 use Rattle.memory.proofs.LoadsAligned.{load-keeps}
-use Rattle.memory.proofs.Places.{below, aligned, room-word, found}
+use Rattle.memory.proofs.Places.{below, aligned, room-word, placed}
 use borrow.Author.Needs.{needs}
 use Rattle.memory.proofs.loads.load_word.Statement.{statement}
 use Rattle.memory.proofs.loads.load_word.Tie as tie
@@ -25,11 +25,14 @@ cast-word-at : tie.Need-cast-word-at
 cast-word-at c = search needs
 
 word-at-requires : tie.Need-word-at-requires
-word-at-requires c κs = let e = found (c .before .before .before .before .before .before .before .args .v .0) (length (now (c .before .before .before .before .before .before .before .args .ram))) _ _ (c .before .before .before .before .translate-word .ensures) (c .before .before .q .given .1) in room-word (now (c .before .before .before .before .before .before .before .args .ram)) _ (c .before .before .before .before .before .before .before .pre) (below _ _ _ _ _ e) (aligned _ _ _ _ _ (load-keeps Word) e)
+word-at-requires c κs = let e = placed (length (now (c .before .before .before .before .before .before .before .args .ram))) (c .before .before .before .before .before .before .before .args .v .0) _ _ (c .before .before .before .before .before .before .before .pre) (c .before .before .before .before .translate-word .ensures .1) (c .before .before .before .before .translate-word .ensures .0) (c .before .before .q .given .1) in room-word (now (c .before .before .before .before .before .before .before .args .ram)) _ (c .before .before .before .before .before .before .before .pre) (below _ _ _ _ _ e) (aligned _ _ _ _ _ (load-keeps Word) e)
 
 returns-2 : tie.Need-returns-2
 unfolding readOf
-returns-2 c = rw (c .before .before .before .before .before .before .if1 .left, found (c .before .before .before .before .before .before .before .before .args .v .0) (length (now (c .before .before .before .before .before .before .before .before .args .ram))) _ _ (c .before .before .before .before .before .translate-word .ensures) (c .before .before .before .q .given .1), c .word-at .ensures)
+returns-2 c = rw (c .before .before .before .before .before .before .if1 .left, placed (length (now (c .before .before .before .before .before .before .before .before .args .ram))) (c .before .before .before .before .before .before .before .before .args .v .0) _ _ (c .before .before .before .before .before .before .before .before .pre) (c .before .before .before .before .before .translate-word .ensures .1) (c .before .before .before .before .before .translate-word .ensures .0) (c .before .before .before .q .given .1), c .word-at .ensures)
+
+enum-told : tie.Need-enum-told
+enum-told c = search needs
 
 load-at-requires-2 : tie.Need-load-at-requires-2
 load-at-requires-2 c κs = search needs
@@ -48,5 +51,6 @@ load-word-spec =
     cast-word-at
     word-at-requires
     returns-2
+    enum-told
     load-at-requires-2
     returns-3)
