@@ -30,21 +30,89 @@ extern "C" {
  * extended). A fresh machine is not all zeros: COP2 register 31 is 32. */
 #define FLISKADEE_IMAGE_WORDS 108
 #define FLISKADEE_IMAGE_BYTES 432
-#define FLISKADEE_COP2_WORD 44
+#define FLISKADEE_MOST_RAM 2097152 /* bytes */
+
+/* The words of an image; 0..31 are the general registers. */
+enum fliskadee_word {
+    FLISKADEE_WORD_HI = 32,
+    FLISKADEE_WORD_LO,
+    FLISKADEE_WORD_PC,
+    FLISKADEE_WORD_NEXT_PC,
+    FLISKADEE_WORD_LOAD_REGISTER,
+    FLISKADEE_WORD_LOAD_VALUE,
+    FLISKADEE_WORD_DELAY_SLOT,
+    FLISKADEE_WORD_SR,
+    FLISKADEE_WORD_CAUSE,
+    FLISKADEE_WORD_EPC,
+    FLISKADEE_WORD_BADV,
+    FLISKADEE_WORD_ZERO,
+    FLISKADEE_WORD_COP2 /* COP2 register n is word FLISKADEE_WORD_COP2 + n */
+};
+
+/* COP2 registers. Data registers 0..31, then control registers. */
+enum fliskadee_cop2 {
+    FLISKADEE_COP2_VXY0, FLISKADEE_COP2_VZ0, FLISKADEE_COP2_VXY1, FLISKADEE_COP2_VZ1, FLISKADEE_COP2_VXY2,
+    FLISKADEE_COP2_VZ2, FLISKADEE_COP2_RGBC, FLISKADEE_COP2_OTZ, FLISKADEE_COP2_IR0, FLISKADEE_COP2_IR1,
+    FLISKADEE_COP2_IR2, FLISKADEE_COP2_IR3, FLISKADEE_COP2_SXY0, FLISKADEE_COP2_SXY1, FLISKADEE_COP2_SXY2,
+    FLISKADEE_COP2_SXYP, FLISKADEE_COP2_SZ0, FLISKADEE_COP2_SZ1, FLISKADEE_COP2_SZ2, FLISKADEE_COP2_SZ3,
+    FLISKADEE_COP2_RGB0, FLISKADEE_COP2_RGB1, FLISKADEE_COP2_RGB2, FLISKADEE_COP2_RES1, FLISKADEE_COP2_MAC0,
+    FLISKADEE_COP2_MAC1, FLISKADEE_COP2_MAC2, FLISKADEE_COP2_MAC3, FLISKADEE_COP2_IRGB, FLISKADEE_COP2_ORGB,
+    FLISKADEE_COP2_LZCS, FLISKADEE_COP2_LZCR,
+    FLISKADEE_COP2_RT, /* five words: RT11 and RT12, RT13 and RT21, RT22 and RT23, RT31 and RT32, RT33 */
+    FLISKADEE_COP2_TRX = 37, FLISKADEE_COP2_TRY, FLISKADEE_COP2_TRZ,
+    FLISKADEE_COP2_LLM, /* the light matrix, in the same way */
+    FLISKADEE_COP2_RBK = 45, FLISKADEE_COP2_GBK, FLISKADEE_COP2_BBK,
+    FLISKADEE_COP2_LCM, /* the light colour matrix */
+    FLISKADEE_COP2_RFC = 53, FLISKADEE_COP2_GFC, FLISKADEE_COP2_BFC, FLISKADEE_COP2_OFX, FLISKADEE_COP2_OFY,
+    FLISKADEE_COP2_H, FLISKADEE_COP2_DQA, FLISKADEE_COP2_DQB, FLISKADEE_COP2_ZSF3, FLISKADEE_COP2_ZSF4,
+    FLISKADEE_COP2_FLAG
+};
+
+/* Word n of an image, and of any little-endian words. */
+static inline uint32_t fliskadee_get_word(const uint8_t *image, size_t n)
+{
+    const uint8_t *b = image + 4 * n;
+
+    return (uint32_t)b[0] | (uint32_t)b[1] << 8 | (uint32_t)b[2] << 16 | (uint32_t)b[3] << 24;
+}
+
+static inline void fliskadee_set_word(uint8_t *image, size_t n, uint32_t value)
+{
+    size_t i;
+
+    for (i = 0; i < 4; i++)
+        image[4 * n + i] = (uint8_t)(value >> 8 * i);
+}
+
+/* A fresh accepted image of 432 bytes: zeros, but for next PC and the register that counts leading bits. Kernel mode, PC 0. */
+static inline void fliskadee_fresh_image(uint8_t *image)
+{
+    size_t i;
+
+    for (i = 0; i < FLISKADEE_IMAGE_BYTES; i++)
+        image[i] = 0;
+    fliskadee_set_word(image, FLISKADEE_WORD_NEXT_PC, 4);
+    fliskadee_set_word(image, FLISKADEE_WORD_COP2 + FLISKADEE_COP2_LZCR, 32);
+}
+
+/* ---- The interface's number: it rises with each change of a call's arguments. fliskadee_interface answers the number of the
+ * library that was linked; a host that compares the two at its start knows that header and library belong together. */
+#define FLISKADEE_INTERFACE 1
+uint32_t fliskadee_interface(void);
 
 /* ---- The answer of fliskadee_run and fliskadee_find_flag: code * 1,048,576 + steps completed */
 #define FLISKADEE_CODE(answer) ((unsigned)((answer) >> 20))
 #define FLISKADEE_STEPS(answer) ((uint32_t)((answer) & 0xFFFFF))
 
 enum fliskadee_code {
-    FLISKADEE_DONE = 0,       /* all steps done: image and RAM are as after them */
-    FLISKADEE_IMAGE_LENGTH = 1, /* the image is not 432 bytes; nothing changed */
-    FLISKADEE_IMAGE_FORM = 2,   /* the image is not well formed; nothing changed */
-    FLISKADEE_RAM_LENGTH = 3,   /* the RAM's length is no multiple of 4 in 4..2,097,152; nothing changed */
-    FLISKADEE_COUNT = 4,        /* the count is above 1,000,000; nothing changed */
-    FLISKADEE_UNLISTED = 5,     /* steps remain, and the next instruction is a usable COP2 command that is not one of the
-                                   22: image and RAM are as just before it */
-    FLISKADEE_FLAG_UP = 16      /* fliskadee_find_flag only: a bit of the mask came up in the last step that was completed */
+    FLISKADEE_DONE = 0,                 /* all steps done: image and RAM are as after them */
+    FLISKADEE_REFUSED_IMAGE_LENGTH = 1, /* the image is not 432 bytes; nothing changed */
+    FLISKADEE_REFUSED_IMAGE_FORM = 2,   /* the image is not well formed; nothing changed */
+    FLISKADEE_REFUSED_RAM_LENGTH = 3,   /* the RAM's length is no multiple of 4 in 4..2,097,152; nothing changed */
+    FLISKADEE_REFUSED_COUNT = 4,        /* the count is above 1,000,000; nothing changed */
+    FLISKADEE_UNLISTED = 5,             /* steps remain, and the next instruction is a usable COP2 command that is not one of
+                                           the 22: image and RAM are as just before it */
+    FLISKADEE_FLAG_UP = 16              /* fliskadee_find_flag only: a bit of the mask came up in the last step completed */
 };
 
 #define FLISKADEE_MOST_STEPS 1000000

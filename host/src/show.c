@@ -2,83 +2,90 @@
 
 #include <stdbool.h>
 #include <stddef.h>
-#include <stdio.h>
 
 #include "image.h"
 
-static const char *const flag_meanings[20] = {
-    "IR0 limited to 0..1000h: the depth cueing result lies outside",
-    "SY2 limited to -400h..3FFh: the screen point lies too far up or down",
-    "SX2 limited to -400h..3FFh: the screen point lies too far left or right",
-    "MAC0 below -2^31: the sum does not fit 32 bits",
-    "MAC0 above 2^31-1: the sum does not fit 32 bits",
-    "divide overflow, quotient limited to 1FFFFh: H is at least twice SZ3, the vertex is too near or behind",
-    "SZ3 or OTZ limited to 0..FFFFh: the depth is negative or too far",
-    "blue of the colour queue limited to 0..FFh",
-    "green of the colour queue limited to 0..FFh",
-    "red of the colour queue limited to 0..FFh",
-    "IR3 limited to -8000h..7FFFh, or 0..7FFFh with lm (not counted in bit 31)",
-    "IR2 limited to -8000h..7FFFh, or 0..7FFFh with lm",
-    "IR1 limited to -8000h..7FFFh, or 0..7FFFh with lm",
-    "MAC3 below -2^43: the sum does not fit 44 bits",
-    "MAC2 below -2^43: the sum does not fit 44 bits",
-    "MAC1 below -2^43: the sum does not fit 44 bits",
-    "MAC3 above 2^43-1: the sum does not fit 44 bits",
-    "MAC2 above 2^43-1: the sum does not fit 44 bits",
-    "MAC1 above 2^43-1: the sum does not fit 44 bits",
-    "error: one of bits 30..23 and 18..13 is set, the result cannot be trusted",
+static const struct {
+    const char *name;
+    const char *meaning;
+} flag_bits[20] = { /* from bit 12 on */
+    {"IR0", "IR0 limited to 0..1000h: the depth cueing result lies outside"},
+    {"SY2", "SY2 limited to -400h..3FFh: the screen point lies too far up or down"},
+    {"SX2", "SX2 limited to -400h..3FFh: the screen point lies too far left or right"},
+    {"MAC0 negative", "MAC0 below -2^31: the sum does not fit 32 bits"},
+    {"MAC0 positive", "MAC0 above 2^31-1: the sum does not fit 32 bits"},
+    {"divide overflow", "divide overflow, quotient limited to 1FFFFh: H is at least twice SZ3, the vertex is too near or behind"},
+    {"SZ3 or OTZ", "SZ3 or OTZ limited to 0..FFFFh: the depth is negative or too far"},
+    {"blue", "blue of the colour queue limited to 0..FFh"},
+    {"green", "green of the colour queue limited to 0..FFh"},
+    {"red", "red of the colour queue limited to 0..FFh"},
+    {"IR3", "IR3 limited to -8000h..7FFFh, or 0..7FFFh with lm (not counted in bit 31)"},
+    {"IR2", "IR2 limited to -8000h..7FFFh, or 0..7FFFh with lm"},
+    {"IR1", "IR1 limited to -8000h..7FFFh, or 0..7FFFh with lm"},
+    {"MAC3 negative", "MAC3 below -2^43: the sum does not fit 44 bits"},
+    {"MAC2 negative", "MAC2 below -2^43: the sum does not fit 44 bits"},
+    {"MAC1 negative", "MAC1 below -2^43: the sum does not fit 44 bits"},
+    {"MAC3 positive", "MAC3 above 2^43-1: the sum does not fit 44 bits"},
+    {"MAC2 positive", "MAC2 above 2^43-1: the sum does not fit 44 bits"},
+    {"MAC1 positive", "MAC1 above 2^43-1: the sum does not fit 44 bits"},
+    {"error", "error: one of bits 30..23 and 18..13 is set, the result cannot be trusted"},
 };
+
+const char *flag_name(unsigned bit)
+{
+    return flag_bits[bit - 12].name;
+}
 
 const char *flag_meaning(unsigned bit)
 {
-    return flag_meanings[bit - 12];
+    return flag_bits[bit - 12].meaning;
 }
 
-void show_flag(uint32_t flag, const char *indent)
+void show_flag(FILE *out, uint32_t flag, const char *indent)
 {
     if (flag == 0)
-        printf("%sno bit is set\n", indent);
+        fprintf(out, "%sno bit is set\n", indent);
     for (unsigned bit = 31; bit >= 12; bit--)
         if ((flag >> bit & 1) != 0)
-            printf("%sbit %u: %s\n", indent, bit, flag_meaning(bit));
+            fprintf(out, "%sbit %u: %s\n", indent, bit, flag_meaning(bit));
 }
 
-static void show_colour(uint32_t word)
+static void show_colour(FILE *out, uint32_t word)
 {
-    printf("red %u, green %u, blue %u, code %02X", (unsigned)(word & 0xFF), (unsigned)(word >> 8 & 0xFF),
+    fprintf(out, "red %u, green %u, blue %u, code %02X", (unsigned)(word & 0xFF), (unsigned)(word >> 8 & 0xFF),
            (unsigned)(word >> 16 & 0xFF), (unsigned)(word >> 24));
 }
 
-static void show_cop2(const uint8_t *image, unsigned number)
+static void show_cop2(FILE *out, const uint8_t *image, unsigned number)
 {
     const struct cop2_register *name = &cop2_registers[number];
     uint32_t word = cop2_at(image, number);
-    printf("%-8s  %08X  ", name->name, (unsigned)word);
+    fprintf(out, "%-8s  %08X  ", name->name, (unsigned)word);
     switch (name->kind) {
-    case KIND_SIGNED: printf("%ld", (long)(int32_t)word); break;
-    case KIND_FIXED: printf("%.5f", (int32_t)word / 65536.0); break;
-    case KIND_SIGNED_HALF: printf("%ld", (long)(int32_t)word); break;
-    case KIND_PLANE: printf("%u in calculation", (unsigned)(word & 0xFFFF)); break;
-    case KIND_UNSIGNED_HALF: printf("%lu", (unsigned long)word); break;
+    case KIND_SIGNED: fprintf(out, "%ld", (long)(int32_t)word); break;
+    case KIND_FIXED: fprintf(out, "%.5f", (int32_t)word / 65536.0); break;
+    case KIND_SIGNED_HALF: fprintf(out, "%ld", (long)(int32_t)word); break;
+    case KIND_PLANE: fprintf(out, "%u in calculation", (unsigned)(word & 0xFFFF)); break;
+    case KIND_UNSIGNED_HALF: fprintf(out, "%lu", (unsigned long)word); break;
     case KIND_PAIR:
-        printf("%s %ld, %s %ld", name->low, (long)low_half(word), name->high, (long)high_half(word));
+        fprintf(out, "%s %ld, %s %ld", name->low, (long)low_half(word), name->high, (long)high_half(word));
         break;
-    case KIND_COLOUR: show_colour(word); break;
+    case KIND_COLOUR: show_colour(out, word); break;
     case KIND_PACKED:
-        printf("red %u, green %u, blue %u", (unsigned)(word & 31), (unsigned)(word >> 5 & 31),
+        fprintf(out, "red %u, green %u, blue %u", (unsigned)(word & 31), (unsigned)(word >> 5 & 31),
                (unsigned)(word >> 10 & 31));
         break;
-    case KIND_FLAG: printf("%s", word == 0 ? "no bit is set" : "bits set:"); break;
+    case KIND_FLAG: fprintf(out, "%s", word == 0 ? "no bit is set" : "bits set:"); break;
     }
 }
 
-void show_word(const uint8_t *image, unsigned word)
+void show_word(FILE *out, const uint8_t *image, unsigned word)
 {
     uint32_t value = word_at(image, word);
     if (word >= WORD_COP2)
-        show_cop2(image, word - WORD_COP2);
+        show_cop2(out, image, word - WORD_COP2);
     else
-        printf("%-8s  %08X  %ld", word_name(word), (unsigned)value, (long)(int32_t)value);
+        fprintf(out, "%-8s  %08X  %ld", word_name(word), (unsigned)value, (long)(int32_t)value);
 }
 
 static const char *mode_name(uint32_t sr, unsigned bit)
@@ -91,7 +98,7 @@ static const char *enable_name(uint32_t sr, unsigned bit)
     return (sr >> bit & 1) != 0 ? "on" : "off";
 }
 
-static void show_sr(uint32_t sr)
+static void show_sr(FILE *out, uint32_t sr)
 {
     static const struct {
         unsigned bit;
@@ -108,16 +115,16 @@ static void show_sr(uint32_t sr)
         {17, "SwC"},
         {16, "IsC: isolated cache (no effect)"},
     };
-    printf("SR        %08X  mode: current %s, previous %s, old %s\n", (unsigned)sr, mode_name(sr, 1),
+    fprintf(out, "SR        %08X  mode: current %s, previous %s, old %s\n", (unsigned)sr, mode_name(sr, 1),
            mode_name(sr, 3), mode_name(sr, 5));
-    printf("                    interrupts: current %s, previous %s, old %s; mask %02X\n", enable_name(sr, 0),
+    fprintf(out, "                    interrupts: current %s, previous %s, old %s; mask %02X\n", enable_name(sr, 0),
            enable_name(sr, 2), enable_name(sr, 4), (unsigned)(sr >> 8 & 0xFF));
     for (size_t i = 0; i < sizeof named / sizeof named[0]; i++)
         if ((sr >> named[i].bit & 1) != 0)
-            printf("                    %s\n", named[i].name);
+            fprintf(out, "                    %s\n", named[i].name);
 }
 
-static const char *exception_name(unsigned code)
+const char *exception_name(unsigned code)
 {
     static const char *const names[] = {
         "Int, interrupt",
@@ -137,75 +144,75 @@ static const char *exception_name(unsigned code)
     return code < sizeof names / sizeof names[0] ? names[code] : "no name here";
 }
 
-static void show_cause(uint32_t cause)
+static void show_cause(FILE *out, uint32_t cause)
 {
     unsigned code = cause >> 2 & 31;
     if (cause == 0) {
-        printf("CAUSE     00000000  no exception\n");
+        fprintf(out, "CAUSE     00000000  no exception\n");
         return;
     }
-    printf("CAUSE     %08X  exception code %u (%s)\n", (unsigned)cause, code, exception_name(code));
+    fprintf(out, "CAUSE     %08X  exception code %u (%s)\n", (unsigned)cause, code, exception_name(code));
     if (cause >> 31 != 0)
-        printf("                    BD: in a delay slot, EPC is the address before it\n");
+        fprintf(out, "                    BD: in a delay slot, EPC is the address before it\n");
     if (code == 11)
-        printf("                    CE: coprocessor %u\n", (unsigned)(cause >> 28 & 3));
+        fprintf(out, "                    CE: coprocessor %u\n", (unsigned)(cause >> 28 & 3));
     if ((cause >> 8 & 3) != 0)
-        printf("                    software interrupt bits %u\n", (unsigned)(cause >> 8 & 3));
+        fprintf(out, "                    software interrupt bits %u\n", (unsigned)(cause >> 8 & 3));
 }
 
-static void show_general(const uint8_t *image)
+static void show_general(FILE *out, const uint8_t *image)
 {
     for (unsigned row = 0; row < 8; row++) {
         for (unsigned column = 0; column < 4; column++) {
             unsigned word = row + 8 * column;
-            printf("%sr%-2u %-4s %08X", column == 0 ? "" : "   ", word, word_name(word),
+            fprintf(out, "%sr%-2u %-4s %08X", column == 0 ? "" : "   ", word, word_name(word),
                    (unsigned)word_at(image, word));
         }
-        printf("\n");
+        fprintf(out, "\n");
     }
 }
 
-static void show_control(const uint8_t *image)
+static void show_control(FILE *out, const uint8_t *image)
 {
     uint32_t waiting = word_at(image, WORD_LOAD_REGISTER);
-    printf("HI        %08X\n", (unsigned)word_at(image, WORD_HI));
-    printf("LO        %08X\n", (unsigned)word_at(image, WORD_LO));
-    printf("PC        %08X\n", (unsigned)word_at(image, WORD_PC));
-    printf("next PC   %08X\n", (unsigned)word_at(image, WORD_NEXT_PC));
+    fprintf(out, "HI        %08X\n", (unsigned)word_at(image, WORD_HI));
+    fprintf(out, "LO        %08X\n", (unsigned)word_at(image, WORD_LO));
+    fprintf(out, "PC        %08X\n", (unsigned)word_at(image, WORD_PC));
+    fprintf(out, "next PC   %08X\n", (unsigned)word_at(image, WORD_NEXT_PC));
     if (waiting == 0)
-        printf("load delay: no register awaits a load\n");
+        fprintf(out, "load delay: no register awaits a load\n");
     else if (waiting < 32)
-        printf("load delay: %s (r%u) becomes %08X after the next instruction\n", word_name(waiting), (unsigned)waiting,
+        fprintf(out, "load delay: %s (r%u) becomes %08X after the next instruction\n", word_name(waiting), (unsigned)waiting,
                (unsigned)word_at(image, WORD_LOAD_VALUE));
     else
-        printf("load delay: register %lu, which does not exist\n", (unsigned long)waiting);
-    printf("delay slot: the next instruction is %s\n",
+        fprintf(out, "load delay: register %lu, which does not exist\n", (unsigned long)waiting);
+    fprintf(out, "delay slot: the next instruction is %s\n",
            word_at(image, WORD_DELAY_SLOT) == 0 ? "not in one" : "in the delay slot of a jump or branch");
-    show_sr(word_at(image, WORD_SR));
-    show_cause(word_at(image, WORD_CAUSE));
-    printf("EPC       %08X\n", (unsigned)word_at(image, WORD_EPC));
-    printf("BADV      %08X\n", (unsigned)word_at(image, WORD_BADV));
+    show_sr(out, word_at(image, WORD_SR));
+    show_cause(out, word_at(image, WORD_CAUSE));
+    fprintf(out, "EPC       %08X\n", (unsigned)word_at(image, WORD_EPC));
+    fprintf(out, "BADV      %08X\n", (unsigned)word_at(image, WORD_BADV));
 }
 
-void show_image(const uint8_t *image)
+void show_image(FILE *out, const uint8_t *image)
 {
     unsigned wrong = check_image(image, NULL, NULL);
-    printf("General registers\n");
-    show_general(image);
-    printf("\nProcessor\n");
-    show_control(image);
-    printf("\nGTE data registers\n");
+    fprintf(out, "General registers\n");
+    show_general(out, image);
+    fprintf(out, "\nProcessor\n");
+    show_control(out, image);
+    fprintf(out, "\nGTE data registers\n");
     for (unsigned number = 0; number < 64; number++) {
         if (number == 32)
-            printf("\nGTE control registers\n");
-        printf("%2u  ", number);
-        show_cop2(image, number);
-        printf("\n");
+            fprintf(out, "\nGTE control registers\n");
+        fprintf(out, "%2u  ", number);
+        show_cop2(out, image, number);
+        fprintf(out, "\n");
     }
     if (cop2_at(image, COP2_FLAG) != 0)
-        show_flag(cop2_at(image, COP2_FLAG), "                        ");
+        show_flag(out, cop2_at(image, COP2_FLAG), "                        ");
     if (wrong != 0)
-        printf("\nThis image is not well formed: %u word%s wrong. The command check says why.\n", wrong,
+        fprintf(out, "\nThis image is not well formed: %u word%s wrong. The command check says why.\n", wrong,
                wrong == 1 ? " is" : "s are");
 }
 
@@ -280,16 +287,16 @@ static int32_t matrix_element(const uint8_t *image, unsigned first, unsigned row
     return index % 2 == 0 ? low_half(word) : high_half(word);
 }
 
-static void show_matrix(const uint8_t *image, const char *name, unsigned first)
+static void show_matrix(FILE *out, const uint8_t *image, const char *name, unsigned first)
 {
     for (unsigned row = 0; row < 3; row++)
-        printf("  %-5s %6ld %6ld %6ld\n", row == 0 ? name : "", (long)matrix_element(image, first, row, 0),
+        fprintf(out, "  %-5s %6ld %6ld %6ld\n", row == 0 ? name : "", (long)matrix_element(image, first, row, 0),
                (long)matrix_element(image, first, row, 1), (long)matrix_element(image, first, row, 2));
 }
 
-static void show_three(const uint8_t *image, const char *name, unsigned first)
+static void show_three(FILE *out, const uint8_t *image, const char *name, unsigned first)
 {
-    printf("  %-5s (%ld, %ld, %ld)\n", name, (long)(int32_t)cop2_at(image, first),
+    fprintf(out, "  %-5s (%ld, %ld, %ld)\n", name, (long)(int32_t)cop2_at(image, first),
            (long)(int32_t)cop2_at(image, first + 1), (long)(int32_t)cop2_at(image, first + 2));
 }
 
@@ -306,7 +313,7 @@ static int64_t floor_4096(int64_t value)
 }
 
 /* Perspective commands rotate and translate a vertex first; the result says which one is too near or too far. */
-static void show_rotated(const uint8_t *image, const int32_t v[3])
+static void show_rotated(FILE *out, const uint8_t *image, const int32_t v[3])
 {
     int64_t sum[3];
     for (unsigned row = 0; row < 3; row++) {
@@ -314,88 +321,88 @@ static void show_rotated(const uint8_t *image, const int32_t v[3])
         for (unsigned column = 0; column < 3; column++)
             sum[row] += (int64_t)matrix_element(image, COP2_RT, row, column) * v[column];
     }
-    printf(", rotated and translated (%lld, %lld, %lld)", (long long)floor_4096(sum[0]), (long long)floor_4096(sum[1]),
+    fprintf(out, ", rotated and translated (%lld, %lld, %lld)", (long long)floor_4096(sum[0]), (long long)floor_4096(sum[1]),
            (long long)floor_4096(sum[2]));
 }
 
-static void show_vertex(const uint8_t *image, unsigned number, bool perspective)
+static void show_vertex(FILE *out, const uint8_t *image, unsigned number, bool perspective)
 {
     int32_t v[3];
     vertex(image, number, v);
-    printf("  V%u    (%ld, %ld, %ld)", number, (long)v[0], (long)v[1], (long)v[2]);
+    fprintf(out, "  V%u    (%ld, %ld, %ld)", number, (long)v[0], (long)v[1], (long)v[2]);
     if (perspective)
-        show_rotated(image, v);
-    printf("\n");
+        show_rotated(out, image, v);
+    fprintf(out, "\n");
 }
 
-static void show_register(const uint8_t *image, unsigned number)
+static void show_register(FILE *out, const uint8_t *image, unsigned number)
 {
-    printf("  ");
-    show_cop2(image, number);
-    printf("\n");
+    fprintf(out, "  ");
+    show_cop2(out, image, number);
+    fprintf(out, "\n");
 }
 
-static void show_registers(const uint8_t *image, unsigned first, unsigned count)
+static void show_registers(FILE *out, const uint8_t *image, unsigned first, unsigned count)
 {
     for (unsigned i = 0; i < count; i++)
-        show_register(image, first + i);
+        show_register(out, image, first + i);
 }
 
-static void show_groups(const uint8_t *image, unsigned reads)
+static void show_groups(FILE *out, const uint8_t *image, unsigned reads)
 {
     for (unsigned number = 0; number < 3; number++)
         if ((reads & (unsigned)READS_V0 << number) != 0)
-            show_vertex(image, number, (reads & READS_SCREEN) != 0);
+            show_vertex(out, image, number, (reads & READS_SCREEN) != 0);
     if ((reads & READS_IR) != 0)
-        show_three(image, "IR", COP2_IR1);
+        show_three(out, image, "IR", COP2_IR1);
     if ((reads & READS_IR0) != 0)
-        show_register(image, COP2_IR0);
+        show_register(out, image, COP2_IR0);
     if ((reads & READS_MAC) != 0)
-        show_three(image, "MAC", COP2_MAC1);
+        show_three(out, image, "MAC", COP2_MAC1);
     if ((reads & READS_RT) != 0)
-        show_matrix(image, "RT", COP2_RT);
+        show_matrix(out, image, "RT", COP2_RT);
     if ((reads & READS_TR) != 0)
-        show_three(image, "TR", COP2_TRX);
+        show_three(out, image, "TR", COP2_TRX);
     if ((reads & READS_LLM) != 0)
-        show_matrix(image, "LLM", COP2_LLM);
+        show_matrix(out, image, "LLM", COP2_LLM);
     if ((reads & READS_BK) != 0)
-        show_three(image, "BK", COP2_RBK);
+        show_three(out, image, "BK", COP2_RBK);
     if ((reads & READS_LCM) != 0)
-        show_matrix(image, "LCM", COP2_LCM);
+        show_matrix(out, image, "LCM", COP2_LCM);
     if ((reads & READS_FC) != 0)
-        show_three(image, "FC", COP2_RFC);
+        show_three(out, image, "FC", COP2_RFC);
     if ((reads & READS_RGBC) != 0)
-        show_register(image, COP2_RGBC);
+        show_register(out, image, COP2_RGBC);
     if ((reads & READS_RGB_QUEUE) != 0)
-        show_registers(image, COP2_RGB0, 3);
+        show_registers(out, image, COP2_RGB0, 3);
     if ((reads & READS_SXY) != 0)
-        show_registers(image, COP2_SXY0, 3);
+        show_registers(out, image, COP2_SXY0, 3);
     if ((reads & READS_SZ) != 0)
-        show_registers(image, COP2_SZ0, 4);
+        show_registers(out, image, COP2_SZ0, 4);
     if ((reads & READS_ZSF3) != 0)
-        show_register(image, COP2_ZSF3);
+        show_register(out, image, COP2_ZSF3);
     if ((reads & READS_ZSF4) != 0)
-        show_register(image, COP2_ZSF4);
+        show_register(out, image, COP2_ZSF4);
     if ((reads & READS_SCREEN) != 0)
-        show_registers(image, COP2_OFX, 5);
+        show_registers(out, image, COP2_OFX, 5);
     if ((reads & READS_MATRIX_3) != 0)
-        printf("  matrix 3: -96 96 %ld; %ld three times; %ld three times\n", (long)(int32_t)cop2_at(image, COP2_IR0),
+        fprintf(out, "  matrix 3: -96 96 %ld; %ld three times; %ld three times\n", (long)(int32_t)cop2_at(image, COP2_IR0),
                (long)matrix_element(image, COP2_RT, 0, 2), (long)matrix_element(image, COP2_RT, 1, 1));
 }
 
-void show_inputs(const uint8_t *image, uint32_t instruction)
+void show_inputs(FILE *out, const uint8_t *image, uint32_t instruction)
 {
     if (instruction >> 25 != 0x25) {
         unsigned general = instruction >> 16 & 31;
-        printf("The value written to FLAG is that of %s (r%u): %08X\n", word_name(general), general,
+        fprintf(out, "The value written to FLAG is that of %s (r%u): %08X\n", word_name(general), general,
                (unsigned)word_at(image, general));
         return;
     }
     for (size_t i = 0; i < sizeof commands / sizeof commands[0]; i++) {
         if (commands[i].number != (instruction & 63))
             continue;
-        printf("Inputs of %s before the step (sf = %u, lm = %u)\n", commands[i].name, (unsigned)(instruction >> 19 & 1),
+        fprintf(out, "Inputs of %s before the step (sf = %u, lm = %u)\n", commands[i].name, (unsigned)(instruction >> 19 & 1),
                (unsigned)(instruction >> 10 & 1));
-        show_groups(image, commands[i].number == 0x12 ? mvmva_reads(instruction) : commands[i].reads);
+        show_groups(out, image, commands[i].number == 0x12 ? mvmva_reads(instruction) : commands[i].reads);
     }
 }

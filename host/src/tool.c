@@ -7,76 +7,15 @@
 #include <stdlib.h>
 #include <string.h>
 #include <strings.h>
-#include <time.h>
 #include <unistd.h>
 
 #include "disassemble.h"
 #include "files.h"
 #include "fliskadee.h"
+#include "follow.h"
 #include "image.h"
+#include "machine.h"
 #include "show.h"
-
-enum { STATUS_FINE = 0, STATUS_FINDING = 1, STATUS_TROUBLE = 2 };
-
-enum {
-    PIECE = FLISKADEE_MOST_STEPS, /* the most steps that the library takes in one call */
-    FILE_MOST = 16 * 1048576  /* well over any good RAM, so that the library gets to judge bad ones */
-};
-
-/* ---- Progress ---- */
-
-struct progress {
-    time_t start;
-    bool shown;
-};
-
-static void start_progress(struct progress *progress)
-{
-    progress->start = time(NULL);
-    progress->shown = false;
-}
-
-static void show_progress(struct progress *progress, uint64_t done, uint64_t all)
-{
-    if (!isatty(STDERR_FILENO) || time(NULL) - progress->start < 1)
-        return;
-    fprintf(stderr, "\r%" PRIu64 " of %" PRIu64 " steps", done, all);
-    fflush(stderr);
-    progress->shown = true;
-}
-
-static void end_progress(const struct progress *progress)
-{
-    if (progress->shown)
-        fprintf(stderr, "\r\033[K");
-}
-
-/* ---- Machines ---- */
-
-struct machine {
-    struct bytes image;
-    struct bytes ram;
-};
-
-struct outcome {
-    unsigned code;
-    uint64_t steps;
-};
-
-static void free_machine(struct machine *machine)
-{
-    free(machine->image.data);
-    free(machine->ram.data);
-}
-
-static bool read_machine(struct machine *machine, const char *image, const char *ram)
-{
-    machine->ram.data = NULL;
-    if (read_file(image, FILE_MOST, &machine->image) && read_file(ram, FILE_MOST, &machine->ram))
-        return true;
-    free_machine(machine);
-    return false;
-}
 
 static bool read_image(const char *path, struct bytes *image)
 {
@@ -90,51 +29,61 @@ static bool read_image(const char *path, struct bytes *image)
     return false;
 }
 
-static bool copy_bytes(struct bytes *to, const struct bytes *from)
+static bool parse_argument(const char *text, const char *what, uint64_t least_value, uint64_t most, uint64_t *value)
 {
-    to->data = malloc(from->length + 1);
-    to->length = from->length;
-    if (to->data == NULL) {
-        complain("there is not enough memory.");
-        return false;
-    }
-    memcpy(to->data, from->data, from->length);
-    return true;
-}
-
-static bool copy_machine(struct machine *to, const struct machine *from)
-{
-    to->ram.data = NULL;
-    if (copy_bytes(&to->image, &from->image) && copy_bytes(&to->ram, &from->ram))
+    if (parse_number(text, value) && *value >= least_value && *value <= most)
         return true;
-    free_machine(to);
+    complain("%s must be a number from %" PRIu64 " to %" PRIu64 " (decimal, or hex after 0x), not \"%s\".", what,
+             least_value, most, text);
     return false;
 }
 
-static void assign_machine(struct machine *to, const struct machine *from)
+/* ---- Options ---- */
+
+/* "--name", or "--name=VALUE" */
+static bool is_option(const char *argument, const char *name)
 {
-    memcpy(to->image.data, from->image.data, from->image.length);
-    memcpy(to->ram.data, from->ram.data, from->ram.length);
+    size_t length = strlen(name);
+    return strncmp(argument, name, length) == 0 && (argument[length] == '\0' || argument[length] == '=');
 }
 
-static struct outcome run_piece(struct machine *machine, uint64_t count)
+/* Takes the value of an option: after an equals sign, or as the next argument. */
+static bool take_option(const char *name, const char *what, const char **value, int count, char **arguments, int *i)
 {
-    uint64_t answer = fliskadee_run(machine->image.data, machine->image.length, machine->ram.data, machine->ram.length,
-                                    count);
-    return (struct outcome){FLISKADEE_CODE(answer), FLISKADEE_STEPS(answer)};
+    const char *equals = strchr(arguments[*i], '=');
+    if (*value != NULL) {
+        complain("%s is given twice.", name);
+        return false;
+    }
+    if (equals == NULL && *i + 1 >= count) {
+        complain("%s needs %s after it.", name, what);
+        return false;
+    }
+    *value = equals != NULL ? equals + 1 : arguments[++*i];
+    return true;
 }
 
-static struct outcome find_piece(struct machine *machine, uint64_t count, uint32_t mask)
+static bool take_positional(const char *command, const char **positional, int most, int *taken, const char *argument)
 {
-    uint64_t answer = fliskadee_find_flag(machine->image.data, machine->image.length, machine->ram.data,
-                                          machine->ram.length, count, mask);
-    return (struct outcome){FLISKADEE_CODE(answer), FLISKADEE_STEPS(answer)};
+    if (strncmp(argument, "--", 2) == 0) {
+        complain("%s has no option %s.", command, argument);
+        return false;
+    }
+    if (*taken < most)
+        positional[*taken] = argument;
+    ++*taken;
+    return true;
 }
 
-static uint64_t least(uint64_t a, uint64_t b)
+static bool have_positionals(const char *command, const char *usage, int wanted, int taken)
 {
-    return a < b ? a : b;
+    if (taken == wanted)
+        return true;
+    complain("%s takes %s, but %d of them are given; see fliskadee %s --help.", command, usage, taken, command);
+    return false;
 }
+
+/* ---- run ---- */
 
 /* Any number of steps, in pieces that the library takes. */
 static struct outcome run_steps(struct machine *machine, uint64_t count)
@@ -151,72 +100,6 @@ static struct outcome run_steps(struct machine *machine, uint64_t count)
     end_progress(&progress);
     return outcome;
 }
-
-/* The word at a virtual address, if it lies in RAM. */
-static bool fetch_word(const struct bytes *ram, uint32_t address, uint32_t *word)
-{
-    uint64_t window = fliskadee_window(ram->data, ram->length, address, 4);
-    if ((window & 0xFFFFFFFF) != 4)
-        return false;
-    *word = word_at(ram->data + (window >> 32), 0);
-    return true;
-}
-
-static void print_instruction(const struct machine *machine, const char *label)
-{
-    uint32_t pc = word_at(machine->image.data, WORD_PC);
-    uint32_t word;
-    char text[128];
-    if (!fetch_word(&machine->ram, pc, &word))
-        return;
-    disassemble(word, pc, text, sizeof text);
-    printf("%s%08X  %08X  %s\n", label, (unsigned)pc, (unsigned)word, text);
-}
-
-/* The library's answer in words, and the status that goes with it; what is trouble goes to stderr. */
-static int print_answer(struct outcome outcome, const struct machine *machine)
-{
-    switch (outcome.code) {
-    case FLISKADEE_DONE:
-        printf("Code 0: all steps done, %" PRIu64 " of them.\n", outcome.steps);
-        return STATUS_FINE;
-    case FLISKADEE_IMAGE_LENGTH:
-        complain("code 1: refused, the image has %zu bytes in place of %d; nothing was run.", machine->image.length,
-                 IMAGE_BYTES);
-        return STATUS_TROUBLE;
-    case FLISKADEE_IMAGE_FORM:
-        printf("Code 2: refused, the image is not well formed (the command check says why). Nothing was run.\n");
-        return STATUS_FINDING;
-    case FLISKADEE_RAM_LENGTH:
-        complain("code 3: refused, the RAM has %zu bytes in place of a multiple of 4 from %d to %d; nothing was run.",
-                 machine->ram.length, RAM_LEAST, RAM_MOST);
-        return STATUS_TROUBLE;
-    case FLISKADEE_COUNT: complain("code 4: refused, the step count is too large; nothing was run."); return STATUS_TROUBLE;
-    case FLISKADEE_UNLISTED:
-        printf("Code 5: stopped after %" PRIu64 " steps, just before an unknown GTE command.\n", outcome.steps);
-        print_instruction(machine, "  at ");
-        return STATUS_FINDING;
-    default:
-        complain("code %u: the library's answer is not one that this tool knows.", outcome.code);
-        return STATUS_TROUBLE;
-    }
-}
-
-static bool was_run(struct outcome outcome)
-{
-    return outcome.code == FLISKADEE_DONE || outcome.code == FLISKADEE_UNLISTED;
-}
-
-static bool parse_argument(const char *text, const char *what, uint64_t least_value, uint64_t most, uint64_t *value)
-{
-    if (parse_number(text, value) && *value >= least_value && *value <= most)
-        return true;
-    complain("%s must be a number from %" PRIu64 " to %" PRIu64 " (decimal, or hex after 0x), not \"%s\".", what,
-             least_value, most, text);
-    return false;
-}
-
-/* ---- run ---- */
 
 struct run_arguments {
     const char *positional[3];
@@ -301,7 +184,7 @@ static int command_run(int count, char **arguments)
     int status = print_answer(outcome, &machine);
     if (was_run(outcome)) {
         printf("\n");
-        show_image(machine.image.data);
+        show_image(stdout, machine.image.data);
         if (!write_outputs(&taken, &machine))
             status = STATUS_TROUBLE;
     }
@@ -317,7 +200,7 @@ static int command_show(int count, char **arguments)
     (void)count;
     if (!read_image(arguments[0], &image))
         return STATUS_TROUBLE;
-    show_image(image.data);
+    show_image(stdout, image.data);
     free(image.data);
     return STATUS_FINE;
 }
@@ -344,10 +227,10 @@ static int command_check(int count, char **arguments)
         return STATUS_TROUBLE;
     if (image.length != IMAGE_BYTES) {
         printf("The file has %zu bytes; an image has %d.\n", image.length, IMAGE_BYTES);
-        expected = FLISKADEE_IMAGE_LENGTH;
+        expected = FLISKADEE_REFUSED_IMAGE_LENGTH;
     } else {
         unsigned wrong = check_image(image.data, tell_wrong_word, image.data);
-        expected = wrong == 0 ? FLISKADEE_DONE : FLISKADEE_IMAGE_FORM;
+        expected = wrong == 0 ? FLISKADEE_DONE : FLISKADEE_REFUSED_IMAGE_FORM;
         if (wrong == 0)
             printf("The image is well formed.\n");
         else
@@ -364,45 +247,137 @@ static int command_check(int count, char **arguments)
     return expected == FLISKADEE_DONE ? STATUS_FINE : STATUS_FINDING;
 }
 
-static void print_difference(const uint8_t *first, const uint8_t *second, unsigned word)
+static int diff_images(char **arguments)
 {
-    show_word(first, word);
-    printf("\n");
-    if (word == WORD_COP2 + COP2_FLAG && word_at(first, word) != 0)
-        show_flag(word_at(first, word), "            ");
-    show_word(second, word);
-    printf("\n");
-    if (word == WORD_COP2 + COP2_FLAG && word_at(second, word) != 0)
-        show_flag(word_at(second, word), "            ");
+    struct bytes images[2];
+    if (!read_image(arguments[0], &images[0]))
+        return STATUS_TROUBLE;
+    if (!read_image(arguments[1], &images[1])) {
+        free(images[0].data);
+        return STATUS_TROUBLE;
+    }
+    uint64_t differing = compare_images(images[0].data, images[1].data);
+    if (differing == 0)
+        printf("The images are equal. RAM was not looked at.\n");
+    else
+        printf("%" PRIu64 " register%s. In each pair above the first line is %s, the second %s. RAM was not looked at.\n",
+               differing, differing == 1 ? " differs" : "s differ", arguments[0], arguments[1]);
+    free(images[0].data);
+    free(images[1].data);
+    return differing == 0 ? STATUS_FINE : STATUS_FINDING;
+}
+
+static bool read_two_machines(struct machine machines[2], char **arguments)
+{
+    if (!read_machine(&machines[0], arguments[0], arguments[1]))
+        return false;
+    if (read_machine(&machines[1], arguments[2], arguments[3]))
+        return true;
+    free_machine(&machines[0]);
+    return false;
+}
+
+static bool are_images(const struct machine machines[2], char **arguments)
+{
+    for (unsigned i = 0; i < 2; i++) {
+        if (machines[i].image.length == IMAGE_BYTES)
+            continue;
+        complain("%s has %zu bytes; an image has %d.", arguments[2 * i], machines[i].image.length, IMAGE_BYTES);
+        return false;
+    }
+    return true;
+}
+
+static int diff_machines(char **arguments)
+{
+    struct machine machines[2];
+    int status = STATUS_TROUBLE;
+    if (!read_two_machines(machines, arguments))
+        return STATUS_TROUBLE;
+    if (are_images(machines, arguments)) {
+        uint64_t registers = compare_images(machines[0].image.data, machines[1].image.data);
+        uint64_t words = compare_ram(&machines[0].ram, &machines[1].ram);
+        if (registers + words == 0)
+            printf("The machines are equal: registers and RAM.\n");
+        else
+            printf("%" PRIu64 " register%s. In each pair above the first is of %s and %s, the second of %s and %s.\n",
+                   registers, registers == 1 ? " differs" : "s differ", arguments[0], arguments[1], arguments[2],
+                   arguments[3]);
+        status = registers + words == 0 ? STATUS_FINE : STATUS_FINDING;
+    }
+    free_machine(&machines[0]);
+    free_machine(&machines[1]);
+    return status;
 }
 
 static int command_diff(int count, char **arguments)
 {
-    struct bytes first;
-    struct bytes second;
-    unsigned differing = 0;
-    (void)count;
-    if (!read_image(arguments[0], &first))
-        return STATUS_TROUBLE;
-    if (!read_image(arguments[1], &second)) {
-        free(first.data);
-        return STATUS_TROUBLE;
+    if (count == 2)
+        return diff_images(arguments);
+    if (count == 4)
+        return diff_machines(arguments);
+    complain("diff takes IMAGE IMAGE, or IMAGE RAM IMAGE RAM; see fliskadee diff --help.");
+    return STATUS_TROUBLE;
+}
+
+/* ---- flags, part ---- */
+
+static int command_flags(int count, char **arguments)
+{
+    const char *positional[3];
+    int positionals = 0;
+    const char *bit_text = NULL;
+    bool last = false;
+    uint64_t bit = 0;
+    uint64_t steps;
+    struct machine machine;
+    for (int i = 0; i < count; i++) {
+        if (strcmp(arguments[i], "--last") == 0) {
+            last = true;
+        } else if (is_option(arguments[i], "--bit")) {
+            if (!take_option("--bit", "a number", &bit_text, count, arguments, &i))
+                return STATUS_TROUBLE;
+        } else if (!take_positional("flags", positional, 3, &positionals, arguments[i])) {
+            return STATUS_TROUBLE;
+        }
     }
-    for (unsigned word = 0; word < IMAGE_WORDS; word++) {
-        if (word_at(first.data, word) == word_at(second.data, word))
-            continue;
-        differing++;
-        print_difference(first.data, second.data, word);
-        printf("\n");
+    if (!have_positionals("flags", "IMAGE RAM N", 3, positionals)
+        || (bit_text != NULL && !parse_argument(bit_text, "B", 12, 31, &bit))
+        || !parse_argument(positional[2], "N", 0, UINT64_MAX, &steps)
+        || !read_machine(&machine, positional[0], positional[1]))
+        return STATUS_TROUBLE;
+    int status = follow_flags(&machine, steps, bit_text == NULL ? -1 : (int)bit, last);
+    free_machine(&machine);
+    return status;
+}
+
+static int command_part(int count, char **arguments)
+{
+    const char *positional[5];
+    char *files[4];
+    int positionals = 0;
+    struct part_options options = {false, false};
+    struct machine machines[2];
+    uint64_t steps;
+    for (int i = 0; i < count; i++) {
+        if (strcmp(arguments[i], "--flag") == 0)
+            options.flag_alone = true;
+        else if (strcmp(arguments[i], "--coarse") == 0)
+            options.coarse = true;
+        else if (!take_positional("part", positional, 5, &positionals, arguments[i]))
+            return STATUS_TROUBLE;
     }
-    if (differing == 0)
-        printf("The images are equal.\n");
-    else
-        printf("%u register%s. In each pair above the first line is %s, the second %s.\n", differing,
-               differing == 1 ? " differs" : "s differ", arguments[0], arguments[1]);
-    free(first.data);
-    free(second.data);
-    return differing == 0 ? STATUS_FINE : STATUS_FINDING;
+    if (!have_positionals("part", "IMAGE RAM IMAGE RAM N", 5, positionals)
+        || !parse_argument(positional[4], "N", 0, UINT64_MAX, &steps))
+        return STATUS_TROUBLE;
+    for (int i = 0; i < 4; i++)
+        files[i] = (char *)positional[i];
+    if (!read_two_machines(machines, files))
+        return STATUS_TROUBLE;
+    int status = follow_parting(machines, steps, options);
+    free_machine(&machines[0]);
+    free_machine(&machines[1]);
+    return status;
 }
 
 /* ---- find-flag ---- */
@@ -418,12 +393,12 @@ static void print_found(unsigned bit, uint64_t step, const struct machine *befor
     if (word_at(before->image.data, WORD_DELAY_SLOT) != 0)
         printf("It stands in the delay slot of a jump or branch.\n");
     printf("\nFLAG before %08X\n", (unsigned)cop2_at(before->image.data, COP2_FLAG));
-    show_flag(cop2_at(before->image.data, COP2_FLAG), "  ");
+    show_flag(stdout, cop2_at(before->image.data, COP2_FLAG), "  ");
     printf("FLAG after  %08X\n", (unsigned)cop2_at(after->image.data, COP2_FLAG));
-    show_flag(cop2_at(after->image.data, COP2_FLAG), "  ");
+    show_flag(stdout, cop2_at(after->image.data, COP2_FLAG), "  ");
     printf("\n");
     if (fetch_word(&before->ram, pc, &word))
-        show_inputs(before->image.data, word);
+        show_inputs(stdout, before->image.data, word);
 }
 
 /* Searches piece by piece. `before` is kept as the machine before the current piece, and on success is run on to
@@ -462,13 +437,35 @@ static bool confirm_found(const struct machine *before, const struct machine *af
     return same;
 }
 
-static int report_search(unsigned bit, struct outcome outcome, const struct machine *before,
-                         const struct machine *after)
+/* The steps after the found one that wrote FLAG and left the bit set: the first ones by number, and how many more. */
+static void print_set_again(struct machine *machine, unsigned bit, uint64_t done, uint64_t count)
+{
+    enum { LISTED = 8 };
+    uint64_t times = 0;
+    uint32_t word;
+    while (done < count) {
+        bool writes = writes_flag(machine, &word);
+        if (run_piece(machine, 1).code != FLISKADEE_DONE)
+            break;
+        done++;
+        if (!writes || (cop2_at(machine->image.data, COP2_FLAG) >> bit & 1) == 0)
+            continue;
+        if (times++ < LISTED)
+            printf("%s %" PRIu64, times == 1 ? "\nThe bit was set again by step" : ",", done);
+    }
+    if (times > LISTED)
+        printf(" and %" PRIu64 " more", times - LISTED);
+    printf(times == 0 ? "\nNo later step of these set the bit again.\n" : ".\n");
+}
+
+static int report_search(unsigned bit, struct outcome outcome, const struct machine *before, struct machine *after,
+                         uint64_t count)
 {
     if (outcome.code == FLISKADEE_FLAG_UP) {
         if (!confirm_found(before, after))
             return STATUS_TROUBLE;
         print_found(bit, outcome.steps, before, after);
+        print_set_again(after, bit, outcome.steps, count);
         return STATUS_FINE;
     }
     int status = print_answer(outcome, after);
@@ -496,7 +493,7 @@ static int command_find_flag(int count, char **arguments)
         printf("FLAG bit %u is set at the start already; looking for the next time it comes up after being clear.\n",
                (unsigned)bit);
     struct outcome outcome = search_flag(&machine, &before, steps, UINT32_C(1) << bit);
-    int status = report_search((unsigned)bit, outcome, &before, &machine);
+    int status = report_search((unsigned)bit, outcome, &before, &machine, steps);
     free_machine(&before);
     free_machine(&machine);
     return status;
@@ -520,6 +517,11 @@ static int command_disassemble(int count, char **arguments)
     if (!read_file(arguments[0], FILE_MOST, &ram))
         return STATUS_TROUBLE;
     uint64_t window = fliskadee_window(ram.data, ram.length, (uint32_t)address, 4 * words);
+    if (ram.length % 4 != 0 || ram.length < RAM_LEAST || ram.length > RAM_MOST) {
+        complain("%s has %zu bytes; a RAM has a multiple of 4 from %d to %d.", arguments[0], ram.length, RAM_LEAST, RAM_MOST);
+        free(ram.data);
+        return STATUS_TROUBLE;
+    }
     if ((window & 0xFFFFFFFF) == 0) {
         complain("%" PRIu64 " words at %08X are not all in this RAM of %zu bytes.", words, (unsigned)address,
                  ram.length);
@@ -637,18 +639,42 @@ static const struct command commands[] = {
      "disagrees with this tool, that is said on stderr and the status is 2.\n"
      "\n"
      "Status: 0 well formed; 1 not well formed, or not of an image's length; 2 bad usage or file trouble.\n"},
-    {"diff", command_diff, 2, "IMAGE IMAGE", "compare two images register by register",
-     "Prints each register that differs, its value in the first image above its value in the second.\n"
-     "FLAG is explained bit by bit.\n"
+    {"diff", command_diff, -1, "IMAGE [RAM] IMAGE [RAM]", "compare two images, or two machines with their RAM",
+     "Prints each register that differs, its value in the first image above its value in the second; FLAG is\n"
+     "explained bit by bit. With two images and two RAMs, in the order IMAGE RAM IMAGE RAM, the words of RAM that\n"
+     "differ follow: the address in RAM and both values, the first 32 of them, and how many there are.\n"
+     "With two images alone it says that RAM was not looked at.\n"
      "\n"
      "Status: 0 equal; 1 different; 2 bad usage or file trouble.\n"},
+    {"flags", command_flags, -1, "IMAGE RAM N [--bit B] [--last]", "list the steps that wrote FLAG",
+     "Runs at most N steps and prints a line for each completed step that wrote FLAG (a GTE command, or CTC2 to\n"
+     "register 63): the step, its PC, word and instruction, FLAG before and after, and the bits that came (+) and\n"
+     "went (-) by name. With --bit B only the steps that left bit B (12..31) set, also where it was set before.\n"
+     "With --last only the last of them: without --bit that is the step that left the FLAG that stands.\n"
+     "The lists of two machines can be compared with diff(1).\n"
+     "\n"
+     "Status: 0 printed; 1 no such step, or the run stopped before an unknown GTE command, or the image is not well\n"
+     "formed; 2 bad usage or file trouble.\n"},
+    {"part", command_part, -1, "IMAGE RAM IMAGE RAM N [--flag] [--coarse]", "find the step at which two machines part",
+     "Runs two machines in lockstep, at most N steps, and finds the first step at which something that was equal\n"
+     "differs: a register, or the word of RAM that a store addressed; with --flag, FLAG alone. What differs at the\n"
+     "start is listed first and does not count. Prints the step; PC, word and instruction on both sides; the\n"
+     "registers that part, and each bit of FLAG that one side has and the other has not; for a GTE command its inputs\n"
+     "on both sides, with < and > where they differ, and for a triple which vertex (or colour) it is; and whether\n"
+     "and when the two are equal again.\n"
+     "With --coarse pieces of 1,000,000 steps are compared at their ends first: quicker, but a parting that heals\n"
+     "inside a piece is missed.\n"
+     "\n"
+     "Status: 0 they do not part; 1 they part, or one stops before an unknown GTE command, or an image is not well\n"
+     "formed; 2 bad usage or file trouble.\n"},
     {"find-flag", command_find_flag, 4, "BIT IMAGE RAM N", "find the first step at which a bit of FLAG comes up",
      "Runs at most N steps and finds the first one at which bit BIT (12..31) of FLAG comes up: it is clear before\n"
      "the step and set after it. Prints the step's number (the first step is 1), its PC and instruction, FLAG before\n"
      "and after bit by bit, and the registers that the instruction took its result from; for RTPS and RTPT\n"
      "also each vertex after rotation and translation, which shows the one that is too near or too far.\n"
      "If the bit is set at the start already, that is said, and the next time it comes up is looked for. A command\n"
-     "that finds the bit set and sets it again is not such a time. No file changes.\n"
+     "that finds the bit set and sets it again is not such a time; those steps are named after the others. Which step\n"
+     "left the FLAG that stands is what flags --last says. No file changes.\n"
      "\n"
      "  12 IR0   13 SY2   14 SX2   15 MAC0 negative   16 MAC0 positive   17 divide overflow   18 SZ3 or OTZ\n"
      "  19 blue   20 green   21 red   22 IR3   23 IR2   24 IR1   25 MAC3 negative   26 MAC2 negative\n"
@@ -683,7 +709,7 @@ static void print_help(void)
            IMAGE_BYTES, RAM_LEAST, RAM_MOST);
     for (int i = 0; i < COMMANDS; i++)
         printf("  %s %s\n      %s\n", commands[i].name, commands[i].usage, commands[i].summary);
-    printf("\nfliskadee COMMAND --help says more of each.\n\n"
+    printf("\nfliskadee COMMAND --help, or fliskadee help COMMAND, says more of each; --version names the interface.\n\n"
            "No file changes unless a command is asked to write it; a file is replaced whole or not at all.\n"
            "Status: 0 fine; 1 a negative finding (images differ, not well formed, flag not found, run stopped before\n"
            "an unknown GTE command); 2 bad usage or file trouble.\n");
@@ -714,21 +740,45 @@ static int do_command(const struct command *command, int count, char **arguments
     return command->act(count, arguments);
 }
 
+static const struct command *find_command(const char *name)
+{
+    for (int i = 0; i < COMMANDS; i++)
+        if (strcmp(name, commands[i].name) == 0)
+            return &commands[i];
+    return NULL;
+}
+
 static int dispatch(int count, char **arguments)
 {
     if (count < 2) {
         complain("a command is missing; see fliskadee --help.");
         return STATUS_TROUBLE;
     }
-    if (is_help(arguments[1]) || strcmp(arguments[1], "help") == 0) {
+    if (strcmp(arguments[1], "--version") == 0) {
+        printf("fliskadee, interface %d\n", FLISKADEE_INTERFACE);
+        return STATUS_FINE;
+    }
+    bool help = is_help(arguments[1]) || strcmp(arguments[1], "help") == 0;
+    if (help && count == 2) {
         print_help();
         return STATUS_FINE;
     }
-    for (int i = 0; i < COMMANDS; i++)
-        if (strcmp(arguments[1], commands[i].name) == 0)
-            return do_command(&commands[i], count - 2, arguments + 2);
-    complain("there is no command %s; see fliskadee --help.", arguments[1]);
-    return STATUS_TROUBLE;
+    const char *name = arguments[help ? 2 : 1];
+    const struct command *command = find_command(name);
+    if (command == NULL) {
+        complain("there is no command %s; see fliskadee --help.", name);
+        return STATUS_TROUBLE;
+    }
+    if (help) {
+        print_command_help(command);
+        return STATUS_FINE;
+    }
+    if (fliskadee_interface() != FLISKADEE_INTERFACE) {
+        complain("this tool was built for interface %d, but the library has interface %u; build both anew.",
+                 FLISKADEE_INTERFACE, (unsigned)fliskadee_interface());
+        return STATUS_TROUBLE;
+    }
+    return do_command(command, count - 2, arguments + 2);
 }
 
 int main(int count, char **arguments)

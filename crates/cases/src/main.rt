@@ -1,4 +1,5 @@
-// Runs worked examples of the GTE, of steps, of runs and of windows through the code, and compares.
+// Runs worked examples of the GTE, of steps, of runs and of windows through the code, and compares. Carries the rows of 01 "Figures
+// from the bench" that are not starred.
 // Standard input has lines of 20 bytes: a letter, and two numbers of 8 hexadecimal digits (or, after `n`, a name).
 //   n  a case begins: registers of zeros; an image that is fresh (zeros, but next PC 4 and COP2 register 31, which is 32), of 432
 //      bytes; RAM of zeros, 4096 bytes

@@ -14,7 +14,7 @@ pub struct HiLo {
     pub lo: u32,
 }
 
-// MULT.
+// MULT: the signed product of 64 bits.
 pub fn multiply(a: u32, b: u32) -> HiLo
     ensures { λ r. ⌜ r ≡ productOf a b ⌝ }
 {
@@ -25,7 +25,7 @@ pub fn multiply(a: u32, b: u32) -> HiLo
     }
 }
 
-// MULTU.
+// MULTU: the unsigned product of 64 bits.
 pub fn multiply_unsigned(a: u32, b: u32) -> HiLo
     ensures { λ r. ⌜ r ≡ unsignedProductOf a b ⌝ }
 {
@@ -49,7 +49,7 @@ fn divide_nonzero(x: i32, y: i32) -> HiLo
     }
 }
 
-// DIV.
+// DIV: remainder and quotient toward zero, with 01's answers for a divisor of 0.
 pub fn divide(a: u32, b: u32) -> HiLo
     ensures { λ r. ⌜ r ≡ quotientOf a b ⌝ }
 {
@@ -65,7 +65,7 @@ pub fn divide(a: u32, b: u32) -> HiLo
     divide_nonzero(to_signed(a), to_signed(b))
 }
 
-// DIVU.
+// DIVU: the same of unsigned words.
 pub fn divide_unsigned(a: u32, b: u32) -> HiLo
     ensures { λ r. ⌜ r ≡ unsignedQuotientOf a b ⌝ }
 {

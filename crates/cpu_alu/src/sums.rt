@@ -23,21 +23,21 @@ fn fitting(x: i64) -> Sum
     }
 }
 
-// ADD and ADDI.
+// ADD and ADDI, which trap where the sum does not fit.
 pub fn add_signed(a: u32, b: u32) -> Sum
     ensures { λ r. ⌜ r ≡ sumOf a b ⌝ }
 {
     fitting((to_signed(a) as i64) + (to_signed(b) as i64))
 }
 
-// SUB.
+// SUB, which traps where the difference does not fit.
 pub fn sub_signed(a: u32, b: u32) -> Sum
     ensures { λ r. ⌜ r ≡ differenceOf a b ⌝ }
 {
     fitting((to_signed(a) as i64) - (to_signed(b) as i64))
 }
 
-// SLT and SLTI.
+// SLT and SLTI: 1 where the first is less, as signed numbers.
 pub fn less_signed(a: u32, b: u32) -> u32
     ensures { λ r. ⌜ r ≡ lessOf a b ⌝ }
 {

@@ -1,6 +1,6 @@
 // What an instruction word says. Carries 01 "One step": the 68 instructions, whose each word is, and its fields.
 
-// The fields of a word.
+// The register numbers, immediates and targets in a word.
 pub mod fields;
 
 // Which of the 68 instructions a word is.

@@ -13,5 +13,5 @@ pub mod jumps;
 // Everything else that stays inside the processor.
 pub mod results;
 
-// Exceptions.
+// Exceptions, over control state and registers.
 pub mod traps;

@@ -5,6 +5,7 @@ ghost use lib.ListN.{length};
 ghost use Rattle.window.specs.Window.{windowAt, windowLength};
 ghost use Rattle.fliskadee.specs.Find.{answer, findOf};
 ghost use Rattle.fliskadee.specs.Answer.{answerOf};
+ghost use Rattle.fliskadee.specs.Interface.{interfaceNumber};
 use image::admission::read_image;
 use image::admission::refusal;
 use image::bytes::write_image;
@@ -58,4 +59,12 @@ pub extern "C" fn fliskadee_window(ram: &[u8], address: u32, n: u64) -> u64
 {
     let p = part_of(Virt(address), n as usize, ram.len());
     (p.at as u64) * 0x1_0000_0000 + p.length as u64
+}
+
+// Which interface the library was built with, so that a host can tell a header that is not its own (FLISKADEE_INTERFACE there).
+#[no_mangle]
+pub extern "C" fn fliskadee_interface() -> u32
+    ensures { λ r. ⌜ r ≡ interfaceNumber ⌝ }
+{
+    1
 }

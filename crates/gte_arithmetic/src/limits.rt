@@ -45,7 +45,7 @@ pub fn lowest_ir(lm: bool) -> i64
     if lm { 0 } else { -0x8000 }
 }
 
-// IR1..3 from stored MAC.
+// IR1..3 from stored MAC, with bit 24, 23 or 22.
 pub fn limit_ir(m: i32, lm: bool, bit: u32) -> Short
     ensures { λ r. ⌜ r ≡ record { v = irOf lm m; flag = limitFlag (irRange lm) m bit } ⌝ }
 {
@@ -56,7 +56,7 @@ pub fn limit_ir(m: i32, lm: bool, bit: u32) -> Short
     }
 }
 
-// A colour from stored MAC.
+// A colour from stored MAC, with bit 21, 20 or 19.
 pub fn limit_colour(m: i32, bit: u32) -> Level
     ensures { λ r. ⌜ r ≡ record { v = colourOf m; flag = limitFlag colourRange (sixteenth m) bit } ⌝ }
 {
@@ -67,7 +67,7 @@ pub fn limit_colour(m: i32, bit: u32) -> Level
     }
 }
 
-// SZ3 and OTZ.
+// SZ3 and OTZ, with bit 18.
 pub fn limit_depth(z: i64) -> Level
     ensures { λ r. ⌜ r ≡ record { v = depthOf z; flag = limitFlag depthRange z 0x4_0000 } ⌝ }
 {
@@ -78,7 +78,7 @@ pub fn limit_depth(z: i64) -> Level
     }
 }
 
-// SX and SY.
+// SX and SY, with bit 14 or 13.
 pub fn limit_screen(x: i64, bit: u32) -> Short
     ensures { λ r. ⌜ r ≡ record { v = screenOf x; flag = limitFlag screenRange x bit } ⌝ }
 {
@@ -89,7 +89,7 @@ pub fn limit_screen(x: i64, bit: u32) -> Short
     }
 }
 
-// IR0.
+// IR0, with bit 12.
 pub fn limit_factor(x: i64) -> Level
     ensures { λ r. ⌜ r ≡ record { v = factorOf x; flag = limitFlag factorRange x 0x1000 } ⌝ }
 {

@@ -20,7 +20,7 @@ fn add_products(x0: i16, y0: i16, x1: i16, y1: i16, x2: i16, y2: i16) -> i64
     times(x0, y1) + times(x1, y2) + times(x2, y0) - times(x0, y2) - times(x1, y0) - times(x2, y1)
 }
 
-// NCLIP.
+// NCLIP's value, stored as MAC0.
 pub fn winding(a: Corner, b: Corner, c: Corner) -> Stored
     ensures { λ r. ⌜ r ≡ record { v = wrap (2 ^ 31) (windingOf a b c); flag = mac0Flag (windingOf a b c) } ⌝ }
 {

@@ -27,21 +27,21 @@ fn matrix(c: &[u32; 64], b: usize) -> [[i16; 3]; 3]
     [[m11, m12, m13], [m21, m22, m23], [m31, m32, m33]]
 }
 
-// RT.
+// RT, which rotates vertices and is MVMVA's matrix 0.
 pub fn rotation(c: &[u32; 64]) -> [[i16; 3]; 3]
     ensures { λ m. ⌜ m ≡ inputsOf (now (c .entry)) .rt ⌝ }
 {
     matrix(c, 32)
 }
 
-// LLM.
+// LLM, the directions of the three lights.
 pub fn light(c: &[u32; 64]) -> [[i16; 3]; 3]
     ensures { λ m. ⌜ m ≡ inputsOf (now (c .entry)) .llm ⌝ }
 {
     matrix(c, 40)
 }
 
-// LCM.
+// LCM, the colours of the three lights.
 pub fn light_colour(c: &[u32; 64]) -> [[i16; 3]; 3]
     ensures { λ m. ⌜ m ≡ inputsOf (now (c .entry)) .lcm ⌝ }
 {

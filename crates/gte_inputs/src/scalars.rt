@@ -25,14 +25,14 @@ pub fn four_depths(c: &[u32; 64]) -> u32
     c[16] % 65536 + c[17] % 65536 + c[18] % 65536 + c[19] % 65536
 }
 
-// ZSF3.
+// ZSF3, AVSZ3's scale: about a third.
 pub fn factor3(c: &[u32; 64]) -> i16
     ensures { λ r. ⌜ r ≡ inputsOf (now (c .entry)) .zsf3 ⌝ }
 {
     low_half(c[61])
 }
 
-// ZSF4.
+// ZSF4, AVSZ4's scale: about a quarter.
 pub fn factor4(c: &[u32; 64]) -> i16
     ensures { λ r. ⌜ r ≡ inputsOf (now (c .entry)) .zsf4 ⌝ }
 {

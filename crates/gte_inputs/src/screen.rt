@@ -39,7 +39,7 @@ pub fn corner0(c: &[u32; 64]) -> Corner
     corner_at(c, 12)
 }
 
-// SXY1.
+// SXY1, the point between the two.
 pub fn corner1(c: &[u32; 64]) -> Corner
     ensures { λ r. ⌜ r ≡ inputsOf (now (c .entry)) .sxy1 ⌝ }
 {

@@ -8,7 +8,7 @@ use words::signed::high_half;
 use words::signed::low_half;
 use words::signed::to_signed;
 
-// V0, V1 or V2.
+// V0, V1 or V2: a vertex or a normal.
 pub fn vector(c: &[u32; 64], k: usize) -> Vector
     requires { ⌜ k < 3 ⌝ }
     ensures { λ r. ⌜ r ≡ normal k (inputsOf (now (c .entry))) ⌝ }
@@ -22,7 +22,7 @@ pub fn vector(c: &[u32; 64], k: usize) -> Vector
     }
 }
 
-// IR1..3.
+// IR1..3, the vector that commands hand on to each other.
 pub fn ir(c: &[u32; 64]) -> Vector
     ensures { λ r. ⌜ r ≡ inputsOf (now (c .entry)) .ir ⌝ }
 {
@@ -52,21 +52,21 @@ pub fn macs(c: &[u32; 64]) -> Long
     long(c, 25)
 }
 
-// TR.
+// TR, added to a rotated vertex.
 pub fn translation(c: &[u32; 64]) -> Long
     ensures { λ r. ⌜ r ≡ inputsOf (now (c .entry)) .tr ⌝ }
 {
     long(c, 37)
 }
 
-// BK.
+// BK, the light that has no direction.
 pub fn background(c: &[u32; 64]) -> Long
     ensures { λ r. ⌜ r ≡ inputsOf (now (c .entry)) .bk ⌝ }
 {
     long(c, 45)
 }
 
-// FC.
+// FC, which depth cueing mixes in.
 pub fn far_colour(c: &[u32; 64]) -> Long
     ensures { λ r. ⌜ r ≡ inputsOf (now (c .entry)) .fc ⌝ }
 {

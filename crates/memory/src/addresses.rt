@@ -5,10 +5,10 @@ ghost use mathlib.Core.Bool.{true, _&&_};
 ghost use lib.Dec.{leb};
 ghost use Rattle.memory.specs.Addresses.{ramLength, mapped, segmentOf, placeOf, directOf};
 
-// A virtual address.
+// A virtual address: PC, or a base plus an offset.
 pub struct Virt(pub u32);
 
-// A physical address.
+// A physical address: a place among RAM's bytes.
 pub struct Phys(pub u32);
 
 // Where a virtual address lies: in RAM, a bus error, or an address error.
@@ -24,7 +24,7 @@ pub(crate) enum Direct {
     Elsewhere,
 }
 
-// A RAM length that is run.
+// A RAM length that is run; any other is code 3, and empties a window.
 pub fn ram_length(n: usize) -> bool
     ensures { λ r. ⌜ r ≡ ramLength n ⌝ }
 {
@@ -48,7 +48,7 @@ fn is_mapped(a: u32) -> bool
     }
 }
 
-// The segment translation.
+// The segment translation, for any address and without a test of mode or alignment.
 pub fn translate(v: Virt, len: usize) -> Place
     ensures { λ r. ⌜ r ≡ segmentOf (v .0) len ⌝ }
 {

@@ -3,8 +3,8 @@
 // Virtual and physical addresses, segments, alignment, RAM's length.
 pub mod addresses;
 
-// Loads from RAM.
+// What a load makes of RAM, after the tests of its address.
 pub mod loads;
 
-// Stores in RAM.
+// What a store leaves in RAM, after the tests of its address.
 pub mod stores;

@@ -1,0 +1,527 @@
+#define _POSIX_C_SOURCE 200809L
+
+#include "follow.h"
+
+#include <inttypes.h>
+#include <stdio.h>
+#include <stdlib.h>
+#include <string.h>
+
+#include "disassemble.h"
+#include "fliskadee.h"
+#include "image.h"
+#include "show.h"
+
+enum { LISTED_WORDS = 32 }; /* differences of RAM that are printed one by one */
+
+static uint32_t flag_of(const uint8_t *image)
+{
+    return cop2_at(image, COP2_FLAG);
+}
+
+static bool is_command(uint32_t word)
+{
+    return word >> 25 == 0x25;
+}
+
+/* CTC2 to register 63 */
+static bool is_flag_move(uint32_t word)
+{
+    return word >> 21 == 0x246 && (word >> 11 & 31) == COP2_FLAG - 32;
+}
+
+bool writes_flag(const struct machine *machine, uint32_t *word)
+{
+    bool gte_usable = (word_at(machine->image.data, WORD_SR) >> 30 & 1) != 0;
+    if (!gte_usable || !next_instruction(machine, word))
+        return false;
+    return is_flag_move(*word) || (is_command(*word) && gte_command_name(*word) != NULL);
+}
+
+bool took_exception(const uint8_t *before, const uint8_t *after)
+{
+    uint32_t sr = word_at(before, WORD_SR);
+    uint32_t vector = (sr >> 22 & 1) != 0 ? 0xBFC00180 : 0x80000080;
+    uint32_t epc = word_at(before, WORD_PC) - (word_at(before, WORD_DELAY_SLOT) != 0 ? 4 : 0);
+    return word_at(after, WORD_PC) == vector && word_at(after, WORD_NEXT_PC) == vector + 4
+           && word_at(after, WORD_SR) == ((sr & ~UINT32_C(0x3F)) | (sr << 2 & 0x3F)) && word_at(after, WORD_EPC) == epc
+           && word_at(after, WORD_DELAY_SLOT) == 0 && (word_at(after, WORD_CAUSE) & 0x7C) != 0;
+}
+
+/* ---- flags ---- */
+
+struct flag_line {
+    uint64_t step;
+    uint32_t pc;
+    uint32_t word;
+    uint32_t before;
+    uint32_t after;
+};
+
+static void print_bits(uint32_t bits, char sign)
+{
+    for (unsigned bit = 31; bit >= 12; bit--)
+        if ((bits >> bit & 1) != 0)
+            printf("  %c%u %s", sign, bit, flag_name(bit));
+}
+
+static void print_flag_line(const struct flag_line *line)
+{
+    char text[128];
+    disassemble(line->word, line->pc, text, sizeof text);
+    printf("%" PRIu64 "  %08X  %08X  %-24s  %08X -> %08X", line->step, (unsigned)line->pc, (unsigned)line->word, text,
+           (unsigned)line->before, (unsigned)line->after);
+    print_bits(line->after & ~line->before, '+');
+    print_bits(line->before & ~line->after, '-');
+    printf("\n");
+}
+
+int follow_flags(struct machine *machine, uint64_t count, int bit, bool last_alone)
+{
+    struct flag_line last = {0, 0, 0, 0, 0};
+    struct outcome outcome = run_piece(machine, 0);
+    for (uint64_t step = 1; was_run(outcome) && outcome.code == FLISKADEE_DONE && step <= count; step++) {
+        struct flag_line line = {step, 0, 0, 0, 0};
+        bool writes = writes_flag(machine, &line.word);
+        line.pc = word_at(machine->image.data, WORD_PC);
+        line.before = flag_of(machine->image.data);
+        outcome = run_piece(machine, 1);
+        line.after = writes ? flag_of(machine->image.data) : 0;
+        if (outcome.code != FLISKADEE_DONE || !writes || (bit >= 0 && (line.after >> bit & 1) == 0))
+            continue;
+        last = line;
+        if (!last_alone)
+            print_flag_line(&line);
+    }
+    if (!was_run(outcome))
+        return print_answer(outcome, machine);
+    if (last.step != 0 && last_alone)
+        print_flag_line(&last);
+    if (outcome.code == FLISKADEE_UNLISTED)
+        complain("the run stopped before an unknown GTE command (code 5), at %08X.",
+                 (unsigned)word_at(machine->image.data, WORD_PC));
+    if (last.step == 0)
+        complain(bit < 0 ? "no step wrote FLAG; it stands as at the start."
+                         : "no step that wrote FLAG left the bit set.");
+    return last.step == 0 || outcome.code == FLISKADEE_UNLISTED ? STATUS_FINDING : STATUS_FINE;
+}
+
+/* ---- Differences ---- */
+
+static void print_difference(const uint8_t *first, const uint8_t *second, unsigned word)
+{
+    const uint8_t *const sides[2] = {first, second};
+    for (unsigned i = 0; i < 2; i++) {
+        show_word(stdout, sides[i], word);
+        printf("\n");
+        if (word == WORD_COP2 + COP2_FLAG && word_at(sides[i], word) != 0)
+            show_flag(stdout, word_at(sides[i], word), "            ");
+    }
+    printf("\n");
+}
+
+uint64_t compare_images(const uint8_t *first, const uint8_t *second)
+{
+    uint64_t differing = 0;
+    for (unsigned word = 0; word < IMAGE_WORDS; word++) {
+        if (word_at(first, word) == word_at(second, word))
+            continue;
+        differing++;
+        print_difference(first, second, word);
+    }
+    return differing;
+}
+
+static void print_ram_word(const struct bytes *first, const struct bytes *second, size_t word)
+{
+    printf("RAM %08zX  %08X  %08X\n", 4 * word, (unsigned)word_at(first->data, word),
+           (unsigned)word_at(second->data, word));
+}
+
+uint64_t compare_ram(const struct bytes *first, const struct bytes *second)
+{
+    size_t words = (size_t)least(first->length, second->length) / 4;
+    uint64_t differing = 0;
+    for (size_t word = 0; word < words; word++) {
+        if (memcmp(first->data + 4 * word, second->data + 4 * word, 4) == 0)
+            continue;
+        if (differing++ < LISTED_WORDS)
+            print_ram_word(first, second, word);
+    }
+    if (differing > LISTED_WORDS)
+        printf("and %" PRIu64 " more words of RAM\n", differing - LISTED_WORDS);
+    if (differing != 0)
+        printf("%" PRIu64 " word%s of RAM differ%s.\n", differing, differing == 1 ? "" : "s", differing == 1 ? "s" : "");
+    if (first->length != second->length)
+        printf("The RAMs have %zu and %zu bytes; only what both have was compared.\n", first->length, second->length);
+    return differing + (first->length != second->length);
+}
+
+/* ---- part ---- */
+
+/* Two machines, as they stand and before the last step. What differed at the start does not count. */
+struct pair {
+    struct machine *now;
+    uint8_t before[2][IMAGE_BYTES];
+    bool fetched[2]; /* the last step's instruction, where its fetch was no exception */
+    uint32_t words[2];
+    bool apart_at_start[IMAGE_WORDS];
+    uint8_t *start_ram[2]; /* the RAMs at the start, to tell what differed there */
+    struct part_options options;
+};
+
+static bool word_counts(const struct pair *pair, unsigned word)
+{
+    return !pair->apart_at_start[word] && (!pair->options.flag_alone || word == WORD_COP2 + COP2_FLAG);
+}
+
+static bool registers_equal(const struct pair *pair)
+{
+    if (memcmp(pair->now[0].image.data, pair->now[1].image.data, IMAGE_BYTES) == 0)
+        return true;
+    for (unsigned word = 0; word < IMAGE_WORDS; word++)
+        if (word_counts(pair, word) && word_at(pair->now[0].image.data, word) != word_at(pair->now[1].image.data, word))
+            return false;
+    return true;
+}
+
+static bool ram_word_counts(const struct pair *pair, size_t word)
+{
+    return memcmp(pair->start_ram[0] + 4 * word, pair->start_ram[1] + 4 * word, 4) == 0;
+}
+
+/* All of RAM, but for what differed at the start. */
+static bool rams_equal(const struct pair *pair)
+{
+    const struct bytes *first = &pair->now[0].ram;
+    const struct bytes *second = &pair->now[1].ram;
+    if (pair->options.flag_alone || memcmp(first->data, second->data, first->length) == 0)
+        return true;
+    for (size_t word = 0; word < first->length / 4; word++)
+        if (memcmp(first->data + 4 * word, second->data + 4 * word, 4) != 0 && ram_word_counts(pair, word))
+            return false;
+    return true;
+}
+
+/* The word of RAM that the next step stores to, as an index; false where it stores nothing there. */
+static bool stored_word(const struct machine *machine, size_t *index)
+{
+    uint32_t word;
+    if (!next_instruction(machine, &word))
+        return false;
+    uint32_t opcode = word >> 26;
+    if (!(opcode == 0x28 || opcode == 0x29 || opcode == 0x2A || opcode == 0x2B || opcode == 0x2E || opcode == 0x3A))
+        return false;
+    uint32_t address = word_at(machine->image.data, word >> 21 & 31) + (uint32_t)low_half(word);
+    uint64_t window = fliskadee_window(machine->ram.data, machine->ram.length, address & ~UINT32_C(3), 4);
+    *index = (size_t)(window >> 32) / 4;
+    return (window & 0xFFFFFFFF) == 4;
+}
+
+struct stored {
+    bool there[2];
+    size_t word[2];
+    bool equal[2]; /* whether that word was equal on both sides before the step */
+};
+
+static bool ram_word_equal(const struct pair *pair, size_t word)
+{
+    return memcmp(pair->now[0].ram.data + 4 * word, pair->now[1].ram.data + 4 * word, 4) == 0;
+}
+
+static struct outcome step_pair(struct pair *pair, struct stored *stored)
+{
+    struct outcome outcomes[2];
+    for (unsigned i = 0; i < 2; i++) {
+        stored->there[i] = !pair->options.flag_alone && stored_word(&pair->now[i], &stored->word[i]);
+        stored->equal[i] = stored->there[i] && ram_word_equal(pair, stored->word[i]);
+        pair->fetched[i] = next_instruction(&pair->now[i], &pair->words[i]);
+        memcpy(pair->before[i], pair->now[i].image.data, IMAGE_BYTES);
+    }
+    for (unsigned i = 0; i < 2; i++)
+        outcomes[i] = run_piece(&pair->now[i], 1);
+    if (outcomes[0].code != outcomes[1].code)
+        printf("The %s machine stops before an unknown GTE command (code 5); the other goes on.\n",
+               outcomes[0].code == FLISKADEE_DONE ? "second" : "first");
+    return outcomes[0].code == FLISKADEE_DONE ? outcomes[1] : outcomes[0];
+}
+
+static bool newly_apart(const struct pair *pair, unsigned word)
+{
+    return (!pair->options.flag_alone || word == WORD_COP2 + COP2_FLAG)
+           && word_at(pair->before[0], word) == word_at(pair->before[1], word)
+           && word_at(pair->now[0].image.data, word) != word_at(pair->now[1].image.data, word);
+}
+
+static bool parted(const struct pair *pair, const struct stored *stored)
+{
+    for (unsigned i = 0; i < 2; i++)
+        if (stored->equal[i] && !ram_word_equal(pair, stored->word[i]))
+            return true;
+    if (memcmp(pair->now[0].image.data, pair->now[1].image.data, IMAGE_BYTES) == 0)
+        return false;
+    for (unsigned word = 0; word < IMAGE_WORDS; word++)
+        if (newly_apart(pair, word))
+            return true;
+    return false;
+}
+
+static void print_sides(const struct pair *pair)
+{
+    static const char *const labels[2] = {"first ", "second"};
+    char text[128];
+    for (unsigned i = 0; i < 2; i++) {
+        uint32_t pc = word_at(pair->before[i], WORD_PC);
+        if (pair->fetched[i]) {
+            disassemble(pair->words[i], pc, text, sizeof text);
+            printf("%s  %08X  %08X  %s\n", labels[i], (unsigned)pc, (unsigned)pair->words[i], text);
+        } else {
+            printf("%s  %08X  nothing is fetched there\n", labels[i], (unsigned)pc);
+        }
+    }
+    printf("\n");
+}
+
+static void print_flag_sides(uint32_t first, uint32_t second)
+{
+    static const char *const sides[2] = {"first", "second"};
+    for (unsigned bit = 31; bit >= 12; bit--)
+        if (((first ^ second) >> bit & 1) != 0)
+            printf("FLAG bit %u is set on the %s alone: %s\n", bit, sides[second >> bit & 1], flag_meaning(bit));
+    printf("\n");
+}
+
+/* The parts of a triple, as the single command that each is. */
+static bool single_command(uint32_t triple, uint32_t *single)
+{
+    static const uint8_t pairs[][2] = {{0x30, 0x01}, {0x20, 0x1E}, {0x3F, 0x1B}, {0x16, 0x13}, {0x2A, 0x10}};
+    for (size_t i = 0; i < sizeof pairs / sizeof pairs[0]; i++) {
+        if (pairs[i][0] != (triple & 63))
+            continue;
+        *single = (triple & ~UINT32_C(63)) | pairs[i][1];
+        return true;
+    }
+    return false;
+}
+
+/* FLAG of part k of a triple: the single command on a copy that has the part's vertex, or colour, where the single one reads it. */
+static uint32_t part_flag(const uint8_t *image, uint32_t single, unsigned k)
+{
+    uint8_t copy[IMAGE_BYTES];
+    uint8_t ram[4];
+    memcpy(copy, image, sizeof copy);
+    if ((single & 63) == 0x10) {
+        set_word_at(copy, WORD_COP2 + COP2_RGBC, cop2_at(image, COP2_RGB0 + k));
+    } else {
+        set_word_at(copy, WORD_COP2 + COP2_VXY0, cop2_at(image, COP2_VXY0 + 2 * k));
+        set_word_at(copy, WORD_COP2 + COP2_VZ0, cop2_at(image, COP2_VZ0 + 2 * k));
+    }
+    set_word_at(copy, WORD_PC, 0);
+    set_word_at(copy, WORD_NEXT_PC, 4);
+    set_word_at(copy, WORD_DELAY_SLOT, 0);
+    set_word_at(copy, WORD_SR, UINT32_C(1) << 30);
+    set_word_at(ram, 0, single);
+    fliskadee_run(copy, sizeof copy, ram, sizeof ram, 1);
+    return flag_of(copy);
+}
+
+static void print_parts(const struct pair *pair, uint32_t word)
+{
+    uint32_t single;
+    if (!is_command(word) || !single_command(word, &single))
+        return;
+    for (unsigned k = 0; k < 3; k++) {
+        uint32_t flags[2];
+        for (unsigned i = 0; i < 2; i++)
+            flags[i] = part_flag(pair->before[i], single, k);
+        if (flags[0] != flags[1])
+            printf("Part %u of the triple (%s%u) leaves FLAG %08X on the first and %08X on the second.\n", k + 1,
+                   (single & 63) == 0x10 ? "RGB" : "V", k, (unsigned)flags[0], (unsigned)flags[1]);
+    }
+}
+
+static char *inputs_text(const uint8_t *image, uint32_t word)
+{
+    char *text = NULL;
+    size_t length = 0;
+    FILE *out = open_memstream(&text, &length);
+    if (out == NULL)
+        return NULL;
+    show_inputs(out, image, word);
+    fclose(out);
+    return text;
+}
+
+/* Lines that are equal once; a line that differs from both sides, marked. The two texts have the same lines but for values. */
+static void print_marked(const char *first, const char *second)
+{
+    while (*first != '\0' && *second != '\0') {
+        size_t a = strcspn(first, "\n");
+        size_t b = strcspn(second, "\n");
+        if (a == b && memcmp(first, second, a) == 0)
+            printf("  %.*s\n", (int)a, first);
+        else
+            printf("< %.*s\n> %.*s\n", (int)a, first, (int)b, second);
+        first += a + (first[a] == '\n');
+        second += b + (second[b] == '\n');
+    }
+    printf("\n");
+}
+
+static void print_inputs(const struct pair *pair)
+{
+    uint32_t word = pair->words[0];
+    bool same = pair->fetched[0] && pair->fetched[1] && word == pair->words[1];
+    if (!same || !(is_command(word) || is_flag_move(word)))
+        return;
+    char *first = inputs_text(pair->before[0], word);
+    char *second = inputs_text(pair->before[1], word);
+    if (first != NULL && second != NULL)
+        print_marked(first, second);
+    free(first);
+    free(second);
+    print_parts(pair, word);
+}
+
+static void print_parting(const struct pair *pair, const struct stored *stored, uint64_t step)
+{
+    uint32_t flags[2] = {flag_of(pair->now[0].image.data), flag_of(pair->now[1].image.data)};
+    printf("They part at step %" PRIu64 ".\n", step);
+    print_sides(pair);
+    for (unsigned word = 0; word < IMAGE_WORDS; word++)
+        if (newly_apart(pair, word))
+            print_difference(pair->now[0].image.data, pair->now[1].image.data, word);
+    for (unsigned i = 0; i < 2; i++)
+        if (stored->equal[i] && !ram_word_equal(pair, stored->word[i])
+            && (i == 0 || !stored->equal[0] || stored->word[0] != stored->word[1]))
+            print_ram_word(&pair->now[0].ram, &pair->now[1].ram, stored->word[i]);
+    if (newly_apart(pair, WORD_COP2 + COP2_FLAG))
+        print_flag_sides(flags[0], flags[1]);
+    print_inputs(pair);
+}
+
+static void list_start(struct pair *pair)
+{
+    const uint8_t *first = pair->now[0].image.data;
+    const uint8_t *second = pair->now[1].image.data;
+    for (unsigned word = 0; word < IMAGE_WORDS; word++)
+        pair->apart_at_start[word] = word_at(first, word) != word_at(second, word);
+    if (memcmp(first, second, IMAGE_BYTES) == 0
+        && memcmp(pair->now[0].ram.data, pair->now[1].ram.data, pair->now[0].ram.length) == 0)
+        return;
+    printf("Different at the start already, and not counted:\n");
+    compare_images(first, second);
+    compare_ram(&pair->now[0].ram, &pair->now[1].ram);
+    printf("\n");
+}
+
+/* Runs both for whole pieces while they are equal at the ends; answers the steps that both have done. */
+static uint64_t skip_pieces(struct pair *pair, uint64_t count)
+{
+    struct machine kept[2];
+    uint64_t done = 0;
+    if (!copy_machine(&kept[0], &pair->now[0]))
+        return 0;
+    if (!copy_machine(&kept[1], &pair->now[1])) {
+        free_machine(&kept[0]);
+        return 0;
+    }
+    printf("Compared at the ends of pieces of %d steps first: a parting that heals inside a piece is missed.\n", PIECE);
+    while (count - done >= PIECE) {
+        struct outcome outcomes[2];
+        for (unsigned i = 0; i < 2; i++)
+            outcomes[i] = run_piece(&pair->now[i], PIECE);
+        if (outcomes[0].code != FLISKADEE_DONE || outcomes[1].code != FLISKADEE_DONE || !registers_equal(pair)
+            || !rams_equal(pair)) {
+            for (unsigned i = 0; i < 2; i++)
+                assign_machine(&pair->now[i], &kept[i]);
+            break;
+        }
+        done += PIECE;
+        for (unsigned i = 0; i < 2; i++)
+            assign_machine(&kept[i], &pair->now[i]);
+    }
+    free_machine(&kept[0]);
+    free_machine(&kept[1]);
+    return done;
+}
+
+/* From the step after the parting on: when all that counts is equal again. */
+static void follow_meeting(struct pair *pair, uint64_t done, uint64_t count)
+{
+    struct stored stored;
+    if (registers_equal(pair) && rams_equal(pair)) {
+        printf("What counts is equal again after the same step.\n");
+        return;
+    }
+    while (done < count) {
+        struct outcome outcome = step_pair(pair, &stored);
+        if (outcome.code != FLISKADEE_DONE)
+            break;
+        done++;
+        if (registers_equal(pair) && rams_equal(pair)) {
+            printf("They meet again after step %" PRIu64 ".\n", done);
+            return;
+        }
+    }
+    printf("They do not meet again within %" PRIu64 " steps.\n", done);
+}
+
+static int follow_pair(struct pair *pair, uint64_t count)
+{
+    struct stored stored;
+    uint64_t done = pair->options.coarse ? skip_pieces(pair, count) : 0;
+    struct progress progress;
+    start_progress(&progress);
+    while (done < count) {
+        struct outcome outcome = step_pair(pair, &stored);
+        if (outcome.code != FLISKADEE_DONE) {
+            end_progress(&progress);
+            printf("The run stopped before an unknown GTE command (code 5) after %" PRIu64 " steps.\n", done);
+            print_instruction(&pair->now[0], "first   ");
+            print_instruction(&pair->now[1], "second  ");
+            return STATUS_FINDING;
+        }
+        done++;
+        if (done % PIECE == 0)
+            show_progress(&progress, done, count);
+        if (!parted(pair, &stored))
+            continue;
+        end_progress(&progress);
+        print_parting(pair, &stored, done);
+        follow_meeting(pair, done, count);
+        return STATUS_FINDING;
+    }
+    end_progress(&progress);
+    printf("They do not part within %" PRIu64 " steps.\n", done);
+    return STATUS_FINE;
+}
+
+int follow_parting(struct machine machines[2], uint64_t count, struct part_options options)
+{
+    struct machine start[2];
+    struct pair pair = {.now = machines, .options = options};
+    for (unsigned i = 0; i < 2; i++) {
+        struct outcome outcome = run_piece(&machines[i], 0);
+        if (!was_run(outcome))
+            return print_answer(outcome, &machines[i]);
+    }
+    if (machines[0].ram.length != machines[1].ram.length) {
+        complain("the RAMs have %zu and %zu bytes; machines in lockstep have RAM of one length.", machines[0].ram.length,
+                 machines[1].ram.length);
+        return STATUS_TROUBLE;
+    }
+    if (!copy_machine(&start[0], &machines[0]))
+        return STATUS_TROUBLE;
+    if (!copy_machine(&start[1], &machines[1])) {
+        free_machine(&start[0]);
+        return STATUS_TROUBLE;
+    }
+    pair.start_ram[0] = start[0].ram.data;
+    pair.start_ram[1] = start[1].ram.data;
+    list_start(&pair);
+    int status = follow_pair(&pair, count);
+    free_machine(&start[0]);
+    free_machine(&start[1]);
+    return status;
+}

@@ -1,0 +1,31 @@
+/* Commands that follow machines step by step: which step set a flag, and where two machines part. */
+#ifndef FLISKADEE_HOST_FOLLOW_H
+#define FLISKADEE_HOST_FOLLOW_H
+
+#include <stdbool.h>
+#include <stdint.h>
+
+#include "machine.h"
+
+/* Whether the next step writes FLAG: it carries out a listed GTE command, or CTC2 to register 63. */
+bool writes_flag(const struct machine *machine, uint32_t *word);
+
+/* The step from `before` to `after` was an exception. */
+bool took_exception(const uint8_t *before, const uint8_t *after);
+
+/* A line for each step that writes FLAG, of at most count steps. bit: those alone that leave this bit set, or -1 for all. */
+int follow_flags(struct machine *machine, uint64_t count, int bit, bool last_alone);
+
+/* How two machines differ: the registers, and RAM. Answers how many words do. */
+uint64_t compare_images(const uint8_t *first, const uint8_t *second);
+uint64_t compare_ram(const struct bytes *first, const struct bytes *second);
+
+struct part_options {
+    bool flag_alone; /* FLAG alone is compared */
+    bool coarse;     /* pieces of PIECE steps are compared at their ends first */
+};
+
+/* Two machines in lockstep for at most count steps: where something that was equal first differs. */
+int follow_parting(struct machine machines[2], uint64_t count, struct part_options options);
+
+#endif
