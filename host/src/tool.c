@@ -145,30 +145,7 @@ static bool take_run_arguments(struct run_arguments *taken, int count, char **ar
         complain("run takes IMAGE RAM N, but %d of them are given; see fliskadee run --help.", positional);
         return false;
     }
-    if (taken->image_out != NULL && taken->ram_out != NULL && strcmp(taken->image_out, taken->ram_out) == 0) {
-        complain("--image-out and --ram-out name the same file.");
-        return false;
-    }
     return true;
-}
-
-/* Both files are written beside their targets before either takes its place. */
-static bool write_outputs(const struct run_arguments *taken, const struct machine *machine)
-{
-    struct output image = {NULL, NULL};
-    struct output ram = {NULL, NULL};
-    if (taken->image_out != NULL
-        && !prepare_output(&image, taken->image_out, machine->image.data, machine->image.length))
-        return false;
-    if (taken->ram_out != NULL && !prepare_output(&ram, taken->ram_out, machine->ram.data, machine->ram.length)) {
-        abandon_output(&image);
-        return false;
-    }
-    if (image.temporary != NULL && !commit_output(&image)) {
-        abandon_output(&ram);
-        return false;
-    }
-    return ram.temporary == NULL || commit_output(&ram);
 }
 
 static int command_run(int count, char **arguments)
@@ -177,19 +154,21 @@ static int command_run(int count, char **arguments)
     struct machine machine;
     uint64_t steps;
     if (!take_run_arguments(&taken, count, arguments)
-        || !parse_argument(taken.positional[2], "N", 0, UINT64_MAX, &steps)
-        || !read_machine(&machine, taken.positional[0], taken.positional[1]))
+        || !parse_argument(taken.positional[2], "N", 0, UINT64_MAX, &steps))
+        return STATUS_TROUBLE;
+    const struct output outputs[] = {{taken.image_out, &machine.image}, {taken.ram_out, &machine.ram}};
+    if (!check_outputs(outputs, 2) || !read_machine(&machine, taken.positional[0], taken.positional[1]))
         return STATUS_TROUBLE;
     struct outcome outcome = run_steps(&machine, steps);
+    /* The files come first, as a reader of the report may end early. */
+    bool written = !was_run(outcome) || write_outputs(outputs, 2);
     int status = print_answer(outcome, &machine);
     if (was_run(outcome)) {
         printf("\n");
         show_image(stdout, machine.image.data);
-        if (!write_outputs(&taken, &machine))
-            status = STATUS_TROUBLE;
     }
     free_machine(&machine);
-    return status;
+    return written ? status : STATUS_TROUBLE;
 }
 
 /* ---- show, check, diff ---- */
@@ -572,7 +551,6 @@ static void tell_refused_word(void *context, unsigned word, const char *why)
 static int command_make_image(int count, char **arguments)
 {
     uint8_t image[IMAGE_BYTES];
-    struct output output;
     const char *path = NULL;
     bool replace = false;
     bool next_pc_given = false;
@@ -599,13 +577,13 @@ static int command_make_image(int count, char **arguments)
     settle_image(image);
     if (check_image(image, tell_refused_word, &told) != 0)
         return STATUS_TROUBLE;
-    if (!replace && access(path, F_OK) == 0) {
+    if (!replace && !is_standard(path) && access(path, F_OK) == 0) {
         complain("%s exists; give --replace to write over it.", path);
         return STATUS_TROUBLE;
     }
-    if (!prepare_output(&output, path, image, sizeof image) || !commit_output(&output))
-        return STATUS_TROUBLE;
-    return STATUS_FINE;
+    const struct bytes bytes = {image, sizeof image};
+    const struct output output = {path, &bytes};
+    return write_outputs(&output, 1) ? STATUS_FINE : STATUS_TROUBLE;
 }
 
 /* ---- Commands ---- */
@@ -783,6 +761,7 @@ static int dispatch(int count, char **arguments)
 
 int main(int count, char **arguments)
 {
+    start_files();
     int status = dispatch(count, arguments);
     if (fflush(stdout) != 0 || ferror(stdout)) {
         complain("cannot write standard output.");
