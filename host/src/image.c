@@ -337,6 +337,10 @@ bool set_by_name(uint8_t *image, const char *name, const char *value, char *why,
             snprintf(why, why_size, "FLAG has no bits 11..0, which %s would set", value);
             return false;
         }
+        if (cop2 == COP2_FLAG && set >> 31 != 0 && (set & FLAG_ERROR_BITS) == 0) {
+            snprintf(why, why_size, "bit 31 of FLAG follows other bits and cannot be set: %s", cop2_rule(cop2));
+            return false;
+        }
     }
     set_word_at(image, word, set);
     return true;

@@ -105,53 +105,76 @@ struct run_arguments {
     const char *positional[3];
     const char *image_out;
     const char *ram_out;
+    bool quiet;
 };
-
-static bool take_output_option(const char *name, const char **value, int count, char **arguments, int *i)
-{
-    if (*i + 1 >= count) {
-        complain("%s needs a file name after it.", name);
-        return false;
-    }
-    if (*value != NULL) {
-        complain("%s is given twice.", name);
-        return false;
-    }
-    *value = arguments[++*i];
-    return true;
-}
 
 static bool take_run_arguments(struct run_arguments *taken, int count, char **arguments)
 {
-    int positional = 0;
+    int positionals = 0;
     memset(taken, 0, sizeof *taken);
     for (int i = 0; i < count; i++) {
-        if (strcmp(arguments[i], "--image-out") == 0) {
-            if (!take_output_option("--image-out", &taken->image_out, count, arguments, &i))
-                return false;
-        } else if (strcmp(arguments[i], "--ram-out") == 0) {
-            if (!take_output_option("--ram-out", &taken->ram_out, count, arguments, &i))
-                return false;
-        } else if (strncmp(arguments[i], "--", 2) == 0) {
-            complain("run has no option %s.", arguments[i]);
+        bool good = true;
+        if (is_option(arguments[i], "--image-out"))
+            good = take_option("--image-out", "a file name", &taken->image_out, count, arguments, &i);
+        else if (is_option(arguments[i], "--ram-out"))
+            good = take_option("--ram-out", "a file name", &taken->ram_out, count, arguments, &i);
+        else if (strcmp(arguments[i], "--quiet") == 0)
+            taken->quiet = true;
+        else
+            good = take_positional("run", taken->positional, 3, &positionals, arguments[i]);
+        if (!good)
             return false;
-        } else if (positional < 3) {
-            taken->positional[positional++] = arguments[i];
-        } else {
-            positional++;
+    }
+    return have_positionals("run", "IMAGE RAM N", 3, positionals);
+}
+
+/* The exceptions that a run takes. A run is followed step by step up to a bound; a longer one would take too long. */
+struct exceptions {
+    bool counted;
+    uint64_t number;
+    uint64_t first; /* the step of the first one */
+    unsigned code;  /* and its code */
+};
+
+static struct outcome run_counting(struct machine *machine, uint64_t count, struct exceptions *exceptions)
+{
+    enum { FOLLOWED = 10000000 };
+    uint8_t before[IMAGE_BYTES];
+    struct outcome outcome = run_piece(machine, 0);
+    memset(exceptions, 0, sizeof *exceptions);
+    exceptions->counted = count <= FOLLOWED;
+    if (!was_run(outcome) || !exceptions->counted)
+        return was_run(outcome) ? run_steps(machine, count) : outcome;
+    while (outcome.steps < count) {
+        memcpy(before, machine->image.data, IMAGE_BYTES);
+        struct outcome step = run_piece(machine, 1);
+        outcome.code = step.code;
+        if (step.code != FLISKADEE_DONE)
+            break;
+        outcome.steps++;
+        if (took_exception(before, machine->image.data) && exceptions->number++ == 0) {
+            exceptions->first = outcome.steps;
+            exceptions->code = word_at(machine->image.data, WORD_CAUSE) >> 2 & 31;
         }
     }
-    if (positional != 3) {
-        complain("run takes IMAGE RAM N, but %d of them are given; see fliskadee run --help.", positional);
-        return false;
-    }
-    return true;
+    return outcome;
+}
+
+static void print_exceptions(const struct exceptions *exceptions)
+{
+    if (!exceptions->counted)
+        printf("Exceptions were not counted in so long a run.\n");
+    else if (exceptions->number != 0)
+        printf("%" PRIu64 " exception%s taken, the first at step %" PRIu64 " with code %u (%s).\n", exceptions->number,
+               exceptions->number == 1 ? " was" : "s were", exceptions->first, exceptions->code,
+               exception_name(exceptions->code));
 }
 
 static int command_run(int count, char **arguments)
 {
     struct run_arguments taken;
     struct machine machine;
+    struct exceptions exceptions;
     uint64_t steps;
     if (!take_run_arguments(&taken, count, arguments)
         || !parse_argument(taken.positional[2], "N", 0, UINT64_MAX, &steps))
@@ -159,11 +182,14 @@ static int command_run(int count, char **arguments)
     const struct output outputs[] = {{taken.image_out, &machine.image}, {taken.ram_out, &machine.ram}};
     if (!check_outputs(outputs, 2) || !read_machine(&machine, taken.positional[0], taken.positional[1]))
         return STATUS_TROUBLE;
-    struct outcome outcome = run_steps(&machine, steps);
+    struct outcome outcome = run_counting(&machine, steps, &exceptions);
     /* The files come first, as a reader of the report may end early. */
     bool written = !was_run(outcome) || write_outputs(outputs, 2);
-    int status = print_answer(outcome, &machine);
-    if (was_run(outcome)) {
+    int status = STATUS_FINE;
+    if (!taken.quiet || outcome.code != FLISKADEE_DONE)
+        status = print_answer(outcome, &machine);
+    if (was_run(outcome) && !taken.quiet) {
+        print_exceptions(&exceptions);
         printf("\n");
         show_image(stdout, machine.image.data);
     }
@@ -548,17 +574,51 @@ static void tell_refused_word(void *context, unsigned word, const char *why)
     *told = true;
 }
 
+/* An existing file is written over only where that is asked for. */
+static int write_made(const char *path, bool replace, const struct bytes *bytes)
+{
+    const struct output output = {path, bytes};
+    if (!replace && !is_standard(path) && access(path, F_OK) == 0) {
+        complain("%s exists; give --replace to write over it.", path);
+        return STATUS_TROUBLE;
+    }
+    return write_outputs(&output, 1) ? STATUS_FINE : STATUS_TROUBLE;
+}
+
+/* The image that a new one starts from. */
+static bool start_image(uint8_t *image, const char *from)
+{
+    struct bytes bytes;
+    if (from == NULL) {
+        fresh_image(image);
+        return true;
+    }
+    if (!read_image(from, &bytes))
+        return false;
+    memcpy(image, bytes.data, IMAGE_BYTES);
+    free(bytes.data);
+    return true;
+}
+
 static int command_make_image(int count, char **arguments)
 {
     uint8_t image[IMAGE_BYTES];
     const char *path = NULL;
+    const char *from = NULL;
     bool replace = false;
     bool next_pc_given = false;
+    bool pc_given = false;
     bool told = false;
-    fresh_image(image);
+    for (int i = 0; i < count; i++)
+        if (is_option(arguments[i], "--from") && !take_option("--from", "an image", &from, count, arguments, &i))
+            return STATUS_TROUBLE;
+    if (!start_image(image, from))
+        return STATUS_TROUBLE;
     for (int i = 0; i < count; i++) {
         if (strcmp(arguments[i], "--replace") == 0) {
             replace = true;
+        } else if (is_option(arguments[i], "--from")) {
+            i += strchr(arguments[i], '=') == NULL;
         } else if (strncmp(arguments[i], "--", 2) == 0) {
             complain("make-image has no option %s.", arguments[i]);
             return STATUS_TROUBLE;
@@ -566,24 +626,91 @@ static int command_make_image(int count, char **arguments)
             path = arguments[i];
         } else if (!set_from_argument(image, arguments[i], &next_pc_given)) {
             return STATUS_TROUBLE;
+        } else {
+            pc_given = pc_given || strncasecmp(arguments[i], "PC=", 3) == 0;
         }
     }
     if (path == NULL) {
         complain("make-image needs a file name; see fliskadee make-image --help.");
         return STATUS_TROUBLE;
     }
-    if (!next_pc_given)
+    /* An image that is taken over keeps its next PC, unless its PC is set. */
+    if (!next_pc_given && (from == NULL || pc_given))
         set_word_at(image, WORD_NEXT_PC, word_at(image, WORD_PC) + 4);
     settle_image(image);
     if (check_image(image, tell_refused_word, &told) != 0)
         return STATUS_TROUBLE;
-    if (!replace && !is_standard(path) && access(path, F_OK) == 0) {
-        complain("%s exists; give --replace to write over it.", path);
+    const struct bytes bytes = {image, sizeof image};
+    return write_made(path, replace, &bytes);
+}
+
+/* ---- make-ram ---- */
+
+static bool store_from_argument(const struct bytes *ram, const char *argument)
+{
+    char address_text[32];
+    uint64_t address;
+    uint64_t word;
+    const char *equals = strchr(argument, '=');
+    if (equals == NULL || (size_t)(equals - argument) >= sizeof address_text) {
+        complain("\"%s\" is not of the form ADDRESS=WORD.", argument);
+        return false;
+    }
+    memcpy(address_text, argument, (size_t)(equals - argument));
+    address_text[equals - argument] = '\0';
+    if (!parse_argument(address_text, "ADDRESS", 0, UINT32_MAX, &address)
+        || !parse_argument(equals + 1, "WORD", 0, UINT32_MAX, &word))
+        return false;
+    uint64_t window = fliskadee_window(ram->data, ram->length, (uint32_t)address, 4);
+    if (address % 4 != 0 || (window & 0xFFFFFFFF) != 4) {
+        complain("a word at %s is not in this RAM of %zu bytes, or not at a multiple of 4.", address_text, ram->length);
+        return false;
+    }
+    set_word_at(ram->data + (window >> 32), 0, (uint32_t)word);
+    return true;
+}
+
+static int make_ram(const char *path, bool replace, struct bytes *ram, int count, char **arguments)
+{
+    for (int i = 0; i < count; i++)
+        if (strncmp(arguments[i], "--", 2) != 0 && !store_from_argument(ram, arguments[i]))
+            return STATUS_TROUBLE;
+    return write_made(path, replace, ram);
+}
+
+static int command_make_ram(int count, char **arguments)
+{
+    const char *positional[2] = {NULL, NULL};
+    int positionals = 0;
+    int stores = count;
+    bool replace = false;
+    uint64_t length;
+    for (int i = 0; i < count; i++) {
+        if (strcmp(arguments[i], "--replace") == 0)
+            replace = true;
+        else if (!take_positional("make-ram", positional, 2, &positionals, arguments[i]))
+            return STATUS_TROUBLE;
+        if (positionals == 2 && stores == count)
+            stores = i + 1;
+    }
+    if (positionals < 2) {
+        complain("make-ram takes FILE BYTES; see fliskadee make-ram --help.");
         return STATUS_TROUBLE;
     }
-    const struct bytes bytes = {image, sizeof image};
-    const struct output output = {path, &bytes};
-    return write_outputs(&output, 1) ? STATUS_FINE : STATUS_TROUBLE;
+    if (!parse_argument(positional[1], "BYTES", RAM_LEAST, RAM_MOST, &length))
+        return STATUS_TROUBLE;
+    if (length % 4 != 0) {
+        complain("BYTES must be a multiple of 4, not %s.", positional[1]);
+        return STATUS_TROUBLE;
+    }
+    struct bytes ram = {calloc((size_t)length, 1), (size_t)length};
+    if (ram.data == NULL) {
+        complain("there is not enough memory.");
+        return STATUS_TROUBLE;
+    }
+    int status = make_ram(positional[0], replace, &ram, count - stores, arguments + stores);
+    free(ram.data);
+    return status;
 }
 
 /* ---- Commands ---- */
@@ -598,9 +725,11 @@ struct command {
 };
 
 static const struct command commands[] = {
-    {"run", command_run, -1, "IMAGE RAM N [--image-out FILE] [--ram-out FILE]", "run N steps and print the registers",
+    {"run", command_run, -1, "IMAGE RAM N [--image-out FILE] [--ram-out FILE] [--quiet]",
+     "run N steps and print the registers",
      "Runs N steps of the machine in the files IMAGE and RAM, and prints the library's answer in words and\n"
-     "every register by name. N may be any 64-bit number; more than 1,000,000 are run in pieces.\n"
+     "every register by name. N may be any 64-bit number; more than 1,000,000 are run in pieces. Exceptions that\n"
+     "were taken are mentioned, in runs of up to 10,000,000 steps. With --quiet only what is not code 0 is said.\n"
      "The files themselves never change. With --image-out and --ram-out the machine after the run is written\n"
      "to the files named, which may be those it was read from. They are not written if the run is refused.\n"
      "If the run stops before an unknown GTE command (code 5), the machine just before it is printed and written.\n"
@@ -664,14 +793,22 @@ static const struct command commands[] = {
      "hex after 0x, and a multiple of 4; addresses beginning with bits 000, 100 and 101 name the same RAM.\n"
      "\n"
      "Status: 0 printed; 2 bad usage, file trouble, or not all of the words are in RAM.\n"},
-    {"make-image", command_make_image, -1, "FILE [NAME=VALUE ...] [--replace]", "write a fresh image",
+    {"make-image", command_make_image, -1, "FILE [--from IMAGE] [NAME=VALUE ...] [--replace]",
+     "write a fresh image, or a changed one",
      "Writes a well-formed image: every register 0 but LZCR, which is 32, and the next PC, which is PC + 4.\n"
+     "With --from the registers are those of IMAGE, and only those that are named change.\n"
      "Registers are set by name, in capitals or not:\n"
      "  r1..r31 or at, v0, ..., ra; HI, LO, PC, NEXT_PC, LOAD_REGISTER, LOAD_VALUE, DELAY_SLOT, SR, CAUSE, EPC,\n"
      "  BADV; and the COP2 registers as the command show prints them. Halves have names of their own: VX0, VY0,\n"
      "  SX0, SY0, RT11..RT33, L11..L33, LR1..LB3. IRGB, ORGB, SXYP and LZCR follow other registers and cannot be\n"
      "  set; nor can bit 31 of FLAG.\n"
      "Values are decimal, with or without a minus sign, or hex after 0x. To use the GTE, set SR=0x40000000.\n"
+     "An existing file is replaced only with --replace.\n"
+     "\n"
+     "Status: 0 written; 2 bad usage or file trouble.\n"},
+    {"make-ram", command_make_ram, -1, "FILE BYTES [ADDRESS=WORD ...] [--replace]", "write a RAM of zeros and some words",
+     "Writes a RAM file of BYTES bytes, a multiple of 4 from 4 to 2097152: zeros, and the words given, little-endian.\n"
+     "ADDRESS and WORD are decimal, or hex after 0x; an address is a multiple of 4 in RAM.\n"
      "An existing file is replaced only with --replace.\n"
      "\n"
      "Status: 0 written; 2 bad usage or file trouble.\n"},
@@ -688,6 +825,7 @@ static void print_help(void)
     for (int i = 0; i < COMMANDS; i++)
         printf("  %s %s\n      %s\n", commands[i].name, commands[i].usage, commands[i].summary);
     printf("\nfliskadee COMMAND --help, or fliskadee help COMMAND, says more of each; --version names the interface.\n\n"
+           "Where a file is read or written, - is standard input or output. After -- nothing is an option.\n"
            "No file changes unless a command is asked to write it; a file is replaced whole or not at all.\n"
            "Status: 0 fine; 1 a negative finding (images differ, not well formed, flag not found, run stopped before\n"
            "an unknown GTE command); 2 bad usage or file trouble.\n");
@@ -703,8 +841,36 @@ static bool is_help(const char *argument)
     return strcmp(argument, "--help") == 0 || strcmp(argument, "-h") == 0;
 }
 
+/* Takes the first -- away. What stands after it is no option: a name that begins with - is written ./-.. instead, which names
+   the same file. Answers how many arguments are left, or -1 where there is no memory. */
+static int take_dashes(int count, char **arguments)
+{
+    int at = 0;
+    while (at < count && strcmp(arguments[at], "--") != 0)
+        at++;
+    if (at == count)
+        return count;
+    for (int i = at; i + 1 < count; i++) {
+        arguments[i] = arguments[i + 1];
+        if (arguments[i][0] != '-')
+            continue;
+        char *name = malloc(strlen(arguments[i]) + 3);
+        if (name == NULL) {
+            complain("there is not enough memory.");
+            return -1;
+        }
+        strcpy(name, "./");
+        strcat(name, arguments[i]);
+        arguments[i] = name;
+    }
+    return count - 1;
+}
+
 static int do_command(const struct command *command, int count, char **arguments)
 {
+    count = take_dashes(count, arguments);
+    if (count < 0)
+        return STATUS_TROUBLE;
     for (int i = 0; i < count; i++) {
         if (is_help(arguments[i])) {
             print_command_help(command);
