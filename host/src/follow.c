@@ -98,11 +98,11 @@ int follow_flags(struct machine *machine, uint64_t count, int bit, bool last_alo
     if (last.step != 0 && last_alone)
         print_flag_line(&last);
     if (outcome.code == FLISKADEE_UNLISTED)
-        complain("the run stopped before an unknown GTE command (code 5), at %08X.",
-                 (unsigned)word_at(machine->image.data, WORD_PC));
+        printf("The run stopped before an unknown GTE command (code 5), at %08X.\n",
+               (unsigned)word_at(machine->image.data, WORD_PC));
     if (last.step == 0)
-        complain(bit < 0 ? "no step wrote FLAG; it stands as at the start."
-                         : "no step that wrote FLAG left the bit set.");
+        printf(bit < 0 ? "No step wrote FLAG; it stands as at the start.\n"
+                       : "No step that wrote FLAG left the bit set.\n");
     return last.step == 0 || outcome.code == FLISKADEE_UNLISTED ? STATUS_FINDING : STATUS_FINE;
 }
 

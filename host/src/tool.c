@@ -877,6 +877,12 @@ static int do_command(const struct command *command, int count, char **arguments
             return STATUS_FINE;
         }
     }
+    for (int i = 0; command->arguments >= 0 && i < count; i++) {
+        if (strncmp(arguments[i], "--", 2) == 0) {
+            complain("%s has no option %s.", command->name, arguments[i]);
+            return STATUS_TROUBLE;
+        }
+    }
     if (command->arguments >= 0 && count != command->arguments) {
         complain("%s takes %s; see fliskadee %s --help.", command->name, command->usage, command->name);
         return STATUS_TROUBLE;
