@@ -1,18 +1,23 @@
 /* A short use of the library: put a triangle through the GTE and read the screen points back.
 
    The program in RAM loads three vertices from memory, projects them with RTPT and stores the three screen points.
-   It is run twice: once with all vertices in front of the viewer, once with one of them too near. */
+   It is run twice: once with all vertices in front of the viewer, once with one of them too near. With --save FOLDER the
+   two machines are written there before they run, as files for the command-line tool. */
+#define _POSIX_C_SOURCE 200809L
+
 #include <inttypes.h>
+#include <stdbool.h>
 #include <stdio.h>
 #include <string.h>
 
+#include "disassemble.h"
+#include "files.h"
 #include "fliskadee.h"
+#include "image.h"
+#include "show.h"
 
-/* Places in the image (each a little-endian word) and in RAM. */
-enum { IMAGE_LENGTH = 432, RAM_LENGTH = 65536 };
-enum { PC = 34, NEXT_PC = 35, SR = 39, COP2 = 44 };
-enum { RT11RT12 = 32, RT22RT23 = 34, RT33 = 36, OFX = 56, OFY = 57, H = 58, LZCR = 31, FLAG = 63 };
-enum { PROGRAM = 0x1000, VERTICES = 0x2000, POINTS = 0x3000 };
+/* Places in RAM. */
+enum { RAM_LENGTH = 65536, PROGRAM = 0x1000, VERTICES = 0x2000, POINTS = 0x3000 };
 #define KERNEL 0x80000000u      /* virtual addresses 80000000h.. name the same RAM as 0.. */
 #define SR_GTE_USABLE (1u << 30)
 
@@ -48,103 +53,97 @@ static const uint32_t program[] = {
 };
 enum { PROGRAM_WORDS = sizeof program / sizeof program[0] };
 
-static uint32_t get(const uint8_t *bytes, size_t word)
+static void put_cop2(uint8_t *image, unsigned number, uint32_t value)
 {
-    const uint8_t *b = bytes + 4 * word;
-    return b[0] | (uint32_t)b[1] << 8 | (uint32_t)b[2] << 16 | (uint32_t)b[3] << 24;
-}
-
-static void put(uint8_t *bytes, size_t word, uint32_t value)
-{
-    for (int i = 0; i < 4; i++)
-        bytes[4 * word + i] = (uint8_t)(value >> 8 * i);
+    fliskadee_set_word(image, FLISKADEE_WORD_COP2 + number, value);
 }
 
 static void put_machine(uint8_t *image, uint8_t *ram, const int16_t triangle[3][3])
 {
-    memset(image, 0, IMAGE_LENGTH);
+    fliskadee_fresh_image(image);
     memset(ram, 0, RAM_LENGTH);
-    put(image, PC, KERNEL | PROGRAM);
-    put(image, NEXT_PC, (KERNEL | PROGRAM) + 4);
-    put(image, SR, SR_GTE_USABLE);
-    put(image, COP2 + LZCR, 32);                 /* leading zeros of LZCS, which is 0: an image must hold this */
-    put(image, COP2 + RT11RT12, 0x1000);         /* the unit matrix; 1000h is one */
-    put(image, COP2 + RT22RT23, 0x1000);
-    put(image, COP2 + RT33, 0x1000);
-    put(image, COP2 + OFX, 160 * 65536);         /* the screen's middle */
-    put(image, COP2 + OFY, 120 * 65536);
-    put(image, COP2 + H, 200);                   /* distance of the projection plane */
+    fliskadee_set_word(image, FLISKADEE_WORD_PC, KERNEL | PROGRAM);
+    fliskadee_set_word(image, FLISKADEE_WORD_NEXT_PC, (KERNEL | PROGRAM) + 4);
+    fliskadee_set_word(image, FLISKADEE_WORD_SR, SR_GTE_USABLE);
+    put_cop2(image, FLISKADEE_COP2_RT, 0x1000);     /* the unit matrix; 1000h is one: RT11, */
+    put_cop2(image, FLISKADEE_COP2_RT + 2, 0x1000); /* RT22 */
+    put_cop2(image, FLISKADEE_COP2_RT + 4, 0x1000); /* and RT33 */
+    put_cop2(image, FLISKADEE_COP2_OFX, 160 * 65536); /* the screen's middle */
+    put_cop2(image, FLISKADEE_COP2_OFY, 120 * 65536);
+    put_cop2(image, FLISKADEE_COP2_H, 200); /* distance of the projection plane */
     for (size_t i = 0; i < PROGRAM_WORDS; i++)
-        put(ram, PROGRAM / 4 + i, program[i]);
+        fliskadee_set_word(ram, PROGRAM / 4 + i, program[i]);
     for (size_t i = 0; i < 3; i++) {
-        put(ram, VERTICES / 4 + 2 * i, (uint16_t)triangle[i][0] | (uint32_t)(uint16_t)triangle[i][1] << 16);
-        put(ram, VERTICES / 4 + 2 * i + 1, (uint16_t)triangle[i][2]);
+        uint32_t xy = (uint16_t)triangle[i][0] | (uint32_t)(uint16_t)triangle[i][1] << 16;
+        fliskadee_set_word(ram, VERTICES / 4 + 2 * i, xy);
+        fliskadee_set_word(ram, VERTICES / 4 + 2 * i + 1, (uint16_t)triangle[i][2]);
     }
+}
+
+/* Writes the machine to DIR/NAME.image and DIR/NAME.ram, for the command-line tool. */
+static bool save_machine(const char *folder, const char *name, const uint8_t *image, const uint8_t *ram)
+{
+    const struct bytes bytes[2] = {{(uint8_t *)image, FLISKADEE_IMAGE_BYTES}, {(uint8_t *)ram, RAM_LENGTH}};
+    char paths[2][4096];
+    snprintf(paths[0], sizeof paths[0], "%s/%s.image", folder, name);
+    snprintf(paths[1], sizeof paths[1], "%s/%s.ram", folder, name);
+    const struct output outputs[2] = {{paths[0], &bytes[0]}, {paths[1], &bytes[1]}};
+    return write_outputs(outputs, 2);
 }
 
 static void print_registers(const uint8_t *image)
 {
-    static const char *const names[64] = {
-        "VXY0", "VZ0", "VXY1", "VZ1", "VXY2", "VZ2", "RGBC", "OTZ", "IR0", "IR1", "IR2", "IR3", "SXY0", "SXY1",
-        "SXY2", "SXYP", "SZ0", "SZ1", "SZ2", "SZ3", "RGB0", "RGB1", "RGB2", "RES1", "MAC0", "MAC1", "MAC2", "MAC3",
-        "IRGB", "ORGB", "LZCS", "LZCR", "RT11RT12", "RT13RT21", "RT22RT23", "RT31RT32", "RT33", "TRX", "TRY", "TRZ",
-        "L11L12", "L13L21", "L22L23", "L31L32", "L33", "RBK", "GBK", "BBK", "LR1LR2", "LR3LG1", "LG2LG3", "LB1LB2",
-        "LB3", "RFC", "GFC", "BFC", "OFX", "OFY", "H", "DQA", "DQB", "ZSF3", "ZSF4", "FLAG",
-    };
-    printf("PC %08" PRIX32 "  a0 %08" PRIX32 "  a1 %08" PRIX32 "; GTE registers that are not 0:\n", get(image, PC),
-           get(image, A0), get(image, A1));
-    for (int i = 0, column = 0; i < 64; i++)
-        if (get(image, COP2 + i) != 0)
-            printf("  %-8s %08" PRIX32 "%s", names[i], get(image, COP2 + i), ++column % 4 == 0 ? "\n" : "");
-    printf("\n");
+    printf("PC %08" PRIX32 "; GTE registers that are not 0:\n", fliskadee_get_word(image, FLISKADEE_WORD_PC));
+    for (unsigned i = 0, column = 0; i < 64; i++)
+        if (cop2_at(image, i) != 0)
+            printf("  %-8s %08" PRIX32 "%s", cop2_register_name(i), cop2_at(image, i), ++column % 4 == 0 ? "\n" : "");
+    printf("\nFLAG\n");
+    show_flag(stdout, cop2_at(image, FLISKADEE_COP2_FLAG), "  ");
 }
 
-static void print_flag(uint32_t flag)
+static bool show_case(const char *title, const int16_t triangle[3][3], const char *folder, const char *name)
 {
-    static const char *const meanings[20] = {
-        "IR0 limited to 0..1000h", "SY2 limited to -400h..3FFh", "SX2 limited to -400h..3FFh",
-        "MAC0 below -2^31", "MAC0 above 2^31-1", "divide overflow: H >= 2*SZ3, a vertex is too near",
-        "SZ3 or OTZ limited to 0..FFFFh", "blue limited to 0..FFh", "green limited to 0..FFh",
-        "red limited to 0..FFh", "IR3 limited", "IR2 limited", "IR1 limited", "MAC3 below -2^43",
-        "MAC2 below -2^43", "MAC1 below -2^43", "MAC3 above 2^43-1", "MAC2 above 2^43-1", "MAC1 above 2^43-1",
-        "error: one of bits 30..23 and 18..13 is set, do not trust the points",
-    };
-    printf("FLAG %08" PRIX32 "%s\n", flag, flag == 0 ? ": no bit is set" : "");
-    for (int bit = 31; bit >= 12; bit--)
-        if ((flag >> bit & 1) != 0)
-            printf("  bit %d: %s\n", bit, meanings[bit - 12]);
-}
-
-static int show_case(const char *title, const int16_t triangle[3][3])
-{
-    static uint8_t image[IMAGE_LENGTH];
+    static uint8_t image[FLISKADEE_IMAGE_BYTES];
     static uint8_t ram[RAM_LENGTH];
     printf("%s\n", title);
     put_machine(image, ram, triangle);
+    if (folder != NULL && !save_machine(folder, name, image, ram))
+        return false;
     uint64_t answer = fliskadee_run(image, sizeof image, ram, sizeof ram, PROGRAM_WORDS);
     printf("The run answers code %u after %u steps.\n", FLISKADEE_CODE(answer), (unsigned)FLISKADEE_STEPS(answer));
     if (FLISKADEE_CODE(answer) != FLISKADEE_DONE)
-        return 1;
+        return false;
     print_registers(image);
-    print_flag(get(image, COP2 + FLAG));
 
-    /* The library says where in RAM a virtual address lies: place in the upper half, length in the lower. */
-    uint64_t window = fliskadee_window(ram, sizeof ram, KERNEL | POINTS, 12);
-    if ((window & 0xFFFFFFFF) != 12)
-        return 1;
+    /* The points that the program stored, in RAM itself. */
+    const uint8_t *points = fliskadee_window_bytes(ram, sizeof ram, KERNEL | POINTS, 12);
+    if (points == NULL)
+        return false;
     for (size_t i = 0; i < 3; i++) {
-        uint32_t point = get(ram + (window >> 32), i);
+        uint32_t point = fliskadee_get_word(points, i);
         printf("V%zu (%d, %d, %d) is at screen point (%d, %d)\n", i, triangle[i][0], triangle[i][1], triangle[i][2],
                (int16_t)(uint16_t)point, (int16_t)(uint16_t)(point >> 16));
     }
     printf("\n");
-    return 0;
+    return true;
 }
 
-int main(void)
+int main(int count, char **arguments)
 {
     static const int16_t clear[3][3] = {{100, -50, 1000}, {-100, -50, 1000}, {0, 80, 600}};
     static const int16_t near[3][3] = {{100, -50, 1000}, {-100, -50, 1000}, {100, -50, 100}};
-    return show_case("A triangle in front of the viewer.", clear)
-           | show_case("The same with its third vertex too near: twice its depth, 100, is not above H, 200.", near);
+    const char *folder = count == 3 && strcmp(arguments[1], "--save") == 0 ? arguments[2] : NULL;
+    if (count != 1 && folder == NULL) {
+        fprintf(stderr, "usage: demo [--save FOLDER]\n");
+        return 2;
+    }
+    if (fliskadee_interface() != FLISKADEE_INTERFACE) {
+        fprintf(stderr, "demo: the library has another interface than the header; build both anew.\n");
+        return 2;
+    }
+    start_files();
+    bool good = show_case("A triangle in front of the viewer.", clear, folder, "clear")
+                && show_case("The same with its third vertex too near: twice its depth, 100, is not above H, 200.", near,
+                             folder, "near");
+    return good ? 0 : 1;
 }

@@ -16,7 +16,13 @@ enum { LISTED_WORDS = 32 }; /* differences of RAM that are printed one by one */
 
 static uint32_t flag_of(const uint8_t *image)
 {
-    return cop2_at(image, COP2_FLAG);
+    return cop2_at(image, FLISKADEE_COP2_FLAG);
+}
+
+/* The same word of both machines is equal. */
+static bool words_equal(const uint8_t *first, const uint8_t *second, unsigned word)
+{
+    return fliskadee_get_word(first, word) == fliskadee_get_word(second, word);
 }
 
 static bool is_command(uint32_t word)
@@ -27,12 +33,12 @@ static bool is_command(uint32_t word)
 /* CTC2 to register 63 */
 static bool is_flag_move(uint32_t word)
 {
-    return word >> 21 == 0x246 && (word >> 11 & 31) == COP2_FLAG - 32;
+    return word >> 21 == 0x246 && (word >> 11 & 31) == FLISKADEE_COP2_FLAG - 32;
 }
 
 bool writes_flag(const struct machine *machine, uint32_t *word)
 {
-    bool gte_usable = (word_at(machine->image.data, WORD_SR) >> 30 & 1) != 0;
+    bool gte_usable = (fliskadee_get_word(machine->image.data, FLISKADEE_WORD_SR) >> 30 & 1) != 0;
     if (!gte_usable || !next_instruction(machine, word))
         return false;
     return is_flag_move(*word) || (is_command(*word) && gte_command_name(*word) != NULL);
@@ -40,12 +46,17 @@ bool writes_flag(const struct machine *machine, uint32_t *word)
 
 bool took_exception(const uint8_t *before, const uint8_t *after)
 {
-    uint32_t sr = word_at(before, WORD_SR);
+    uint32_t sr = fliskadee_get_word(before, FLISKADEE_WORD_SR);
+    uint32_t pushed = (sr & ~UINT32_C(0x3F)) | (sr << 2 & 0x3F);
     uint32_t vector = (sr >> 22 & 1) != 0 ? 0xBFC00180 : 0x80000080;
-    uint32_t epc = word_at(before, WORD_PC) - (word_at(before, WORD_DELAY_SLOT) != 0 ? 4 : 0);
-    return word_at(after, WORD_PC) == vector && word_at(after, WORD_NEXT_PC) == vector + 4
-           && word_at(after, WORD_SR) == ((sr & ~UINT32_C(0x3F)) | (sr << 2 & 0x3F)) && word_at(after, WORD_EPC) == epc
-           && word_at(after, WORD_DELAY_SLOT) == 0 && (word_at(after, WORD_CAUSE) & 0x7C) != 0;
+    uint32_t slot = fliskadee_get_word(before, FLISKADEE_WORD_DELAY_SLOT);
+    uint32_t epc = fliskadee_get_word(before, FLISKADEE_WORD_PC) - (slot != 0 ? 4 : 0);
+    return fliskadee_get_word(after, FLISKADEE_WORD_PC) == vector
+           && fliskadee_get_word(after, FLISKADEE_WORD_NEXT_PC) == vector + 4
+           && fliskadee_get_word(after, FLISKADEE_WORD_DELAY_SLOT) == 0
+           && fliskadee_get_word(after, FLISKADEE_WORD_SR) == pushed
+           && fliskadee_get_word(after, FLISKADEE_WORD_EPC) == epc
+           && (fliskadee_get_word(after, FLISKADEE_WORD_CAUSE) & 0x7C) != 0;
 }
 
 /* ---- flags ---- */
@@ -83,7 +94,7 @@ int follow_flags(struct machine *machine, uint64_t count, int bit, bool last_alo
     for (uint64_t step = 1; was_run(outcome) && outcome.code == FLISKADEE_DONE && step <= count; step++) {
         struct flag_line line = {step, 0, 0, 0, 0};
         bool writes = writes_flag(machine, &line.word);
-        line.pc = word_at(machine->image.data, WORD_PC);
+        line.pc = fliskadee_get_word(machine->image.data, FLISKADEE_WORD_PC);
         line.before = flag_of(machine->image.data);
         outcome = run_piece(machine, 1);
         line.after = writes ? flag_of(machine->image.data) : 0;
@@ -99,7 +110,7 @@ int follow_flags(struct machine *machine, uint64_t count, int bit, bool last_alo
         print_flag_line(&last);
     if (outcome.code == FLISKADEE_UNLISTED)
         printf("The run stopped before an unknown GTE command (code 5), at %08X.\n",
-               (unsigned)word_at(machine->image.data, WORD_PC));
+               (unsigned)fliskadee_get_word(machine->image.data, FLISKADEE_WORD_PC));
     if (last.step == 0)
         printf(bit < 0 ? "No step wrote FLAG; it stands as at the start.\n"
                        : "No step that wrote FLAG left the bit set.\n");
@@ -114,8 +125,8 @@ static void print_difference(const uint8_t *first, const uint8_t *second, unsign
     for (unsigned i = 0; i < 2; i++) {
         show_word(stdout, sides[i], word);
         printf("\n");
-        if (word == WORD_COP2 + COP2_FLAG && word_at(sides[i], word) != 0)
-            show_flag(stdout, word_at(sides[i], word), "            ");
+        if (word == FLISKADEE_WORD_COP2 + FLISKADEE_COP2_FLAG && fliskadee_get_word(sides[i], word) != 0)
+            show_flag(stdout, fliskadee_get_word(sides[i], word), "            ");
     }
     printf("\n");
 }
@@ -123,8 +134,8 @@ static void print_difference(const uint8_t *first, const uint8_t *second, unsign
 uint64_t compare_images(const uint8_t *first, const uint8_t *second)
 {
     uint64_t differing = 0;
-    for (unsigned word = 0; word < IMAGE_WORDS; word++) {
-        if (word_at(first, word) == word_at(second, word))
+    for (unsigned word = 0; word < FLISKADEE_IMAGE_WORDS; word++) {
+        if (words_equal(first, second, word))
             continue;
         differing++;
         print_difference(first, second, word);
@@ -134,8 +145,8 @@ uint64_t compare_images(const uint8_t *first, const uint8_t *second)
 
 static void print_ram_word(const struct bytes *first, const struct bytes *second, size_t word)
 {
-    printf("RAM %08zX  %08X  %08X\n", 4 * word, (unsigned)word_at(first->data, word),
-           (unsigned)word_at(second->data, word));
+    printf("RAM %08zX  %08X  %08X\n", 4 * word, (unsigned)fliskadee_get_word(first->data, word),
+           (unsigned)fliskadee_get_word(second->data, word));
 }
 
 uint64_t compare_ram(const struct bytes *first, const struct bytes *second)
@@ -162,25 +173,25 @@ uint64_t compare_ram(const struct bytes *first, const struct bytes *second)
 /* Two machines, as they stand and before the last step. What differed at the start does not count. */
 struct pair {
     struct machine *now;
-    uint8_t before[2][IMAGE_BYTES];
+    uint8_t before[2][FLISKADEE_IMAGE_BYTES];
     bool fetched[2]; /* the last step's instruction, where its fetch was no exception */
     uint32_t words[2];
-    bool apart_at_start[IMAGE_WORDS];
+    bool apart_at_start[FLISKADEE_IMAGE_WORDS];
     uint8_t *start_ram[2]; /* the RAMs at the start, to tell what differed there */
     struct part_options options;
 };
 
 static bool word_counts(const struct pair *pair, unsigned word)
 {
-    return !pair->apart_at_start[word] && (!pair->options.flag_alone || word == WORD_COP2 + COP2_FLAG);
+    return !pair->apart_at_start[word] && (!pair->options.flag_alone || word == FLISKADEE_WORD_COP2 + FLISKADEE_COP2_FLAG);
 }
 
 static bool registers_equal(const struct pair *pair)
 {
-    if (memcmp(pair->now[0].image.data, pair->now[1].image.data, IMAGE_BYTES) == 0)
+    if (memcmp(pair->now[0].image.data, pair->now[1].image.data, FLISKADEE_IMAGE_BYTES) == 0)
         return true;
-    for (unsigned word = 0; word < IMAGE_WORDS; word++)
-        if (word_counts(pair, word) && word_at(pair->now[0].image.data, word) != word_at(pair->now[1].image.data, word))
+    for (unsigned word = 0; word < FLISKADEE_IMAGE_WORDS; word++)
+        if (word_counts(pair, word) && !words_equal(pair->now[0].image.data, pair->now[1].image.data, word))
             return false;
     return true;
 }
@@ -212,7 +223,7 @@ static bool stored_word(const struct machine *machine, size_t *index)
     uint32_t opcode = word >> 26;
     if (!(opcode == 0x28 || opcode == 0x29 || opcode == 0x2A || opcode == 0x2B || opcode == 0x2E || opcode == 0x3A))
         return false;
-    uint32_t address = word_at(machine->image.data, word >> 21 & 31) + (uint32_t)low_half(word);
+    uint32_t address = fliskadee_get_word(machine->image.data, word >> 21 & 31) + (uint32_t)low_half(word);
     uint64_t window = fliskadee_window(machine->ram.data, machine->ram.length, address & ~UINT32_C(3), 4);
     *index = (size_t)(window >> 32) / 4;
     return (window & 0xFFFFFFFF) == 4;
@@ -236,7 +247,7 @@ static struct outcome step_pair(struct pair *pair, struct stored *stored)
         stored->there[i] = !pair->options.flag_alone && stored_word(&pair->now[i], &stored->word[i]);
         stored->equal[i] = stored->there[i] && ram_word_equal(pair, stored->word[i]);
         pair->fetched[i] = next_instruction(&pair->now[i], &pair->words[i]);
-        memcpy(pair->before[i], pair->now[i].image.data, IMAGE_BYTES);
+        memcpy(pair->before[i], pair->now[i].image.data, FLISKADEE_IMAGE_BYTES);
     }
     for (unsigned i = 0; i < 2; i++)
         outcomes[i] = run_piece(&pair->now[i], 1);
@@ -248,9 +259,9 @@ static struct outcome step_pair(struct pair *pair, struct stored *stored)
 
 static bool newly_apart(const struct pair *pair, unsigned word)
 {
-    return (!pair->options.flag_alone || word == WORD_COP2 + COP2_FLAG)
-           && word_at(pair->before[0], word) == word_at(pair->before[1], word)
-           && word_at(pair->now[0].image.data, word) != word_at(pair->now[1].image.data, word);
+    return (!pair->options.flag_alone || word == FLISKADEE_WORD_COP2 + FLISKADEE_COP2_FLAG)
+           && words_equal(pair->before[0], pair->before[1], word)
+           && !words_equal(pair->now[0].image.data, pair->now[1].image.data, word);
 }
 
 static bool parted(const struct pair *pair, const struct stored *stored)
@@ -258,9 +269,9 @@ static bool parted(const struct pair *pair, const struct stored *stored)
     for (unsigned i = 0; i < 2; i++)
         if (stored->equal[i] && !ram_word_equal(pair, stored->word[i]))
             return true;
-    if (memcmp(pair->now[0].image.data, pair->now[1].image.data, IMAGE_BYTES) == 0)
+    if (memcmp(pair->now[0].image.data, pair->now[1].image.data, FLISKADEE_IMAGE_BYTES) == 0)
         return false;
-    for (unsigned word = 0; word < IMAGE_WORDS; word++)
+    for (unsigned word = 0; word < FLISKADEE_IMAGE_WORDS; word++)
         if (newly_apart(pair, word))
             return true;
     return false;
@@ -271,7 +282,7 @@ static void print_sides(const struct pair *pair)
     static const char *const labels[2] = {"first ", "second"};
     char text[128];
     for (unsigned i = 0; i < 2; i++) {
-        uint32_t pc = word_at(pair->before[i], WORD_PC);
+        uint32_t pc = fliskadee_get_word(pair->before[i], FLISKADEE_WORD_PC);
         if (pair->fetched[i]) {
             disassemble(pair->words[i], pc, text, sizeof text);
             printf("%s  %08X  %08X  %s\n", labels[i], (unsigned)pc, (unsigned)pair->words[i], text);
@@ -307,20 +318,20 @@ static bool single_command(uint32_t triple, uint32_t *single)
 /* FLAG of part k of a triple: the single command on a copy that has the part's vertex, or colour, where the single one reads it. */
 static uint32_t part_flag(const uint8_t *image, uint32_t single, unsigned k)
 {
-    uint8_t copy[IMAGE_BYTES];
+    uint8_t copy[FLISKADEE_IMAGE_BYTES];
     uint8_t ram[4];
     memcpy(copy, image, sizeof copy);
     if ((single & 63) == 0x10) {
-        set_word_at(copy, WORD_COP2 + COP2_RGBC, cop2_at(image, COP2_RGB0 + k));
+        fliskadee_set_word(copy, FLISKADEE_WORD_COP2 + FLISKADEE_COP2_RGBC, cop2_at(image, FLISKADEE_COP2_RGB0 + k));
     } else {
-        set_word_at(copy, WORD_COP2 + COP2_VXY0, cop2_at(image, COP2_VXY0 + 2 * k));
-        set_word_at(copy, WORD_COP2 + COP2_VZ0, cop2_at(image, COP2_VZ0 + 2 * k));
+        fliskadee_set_word(copy, FLISKADEE_WORD_COP2 + FLISKADEE_COP2_VXY0, cop2_at(image, FLISKADEE_COP2_VXY0 + 2 * k));
+        fliskadee_set_word(copy, FLISKADEE_WORD_COP2 + FLISKADEE_COP2_VZ0, cop2_at(image, FLISKADEE_COP2_VZ0 + 2 * k));
     }
-    set_word_at(copy, WORD_PC, 0);
-    set_word_at(copy, WORD_NEXT_PC, 4);
-    set_word_at(copy, WORD_DELAY_SLOT, 0);
-    set_word_at(copy, WORD_SR, UINT32_C(1) << 30);
-    set_word_at(ram, 0, single);
+    fliskadee_set_word(copy, FLISKADEE_WORD_PC, 0);
+    fliskadee_set_word(copy, FLISKADEE_WORD_NEXT_PC, 4);
+    fliskadee_set_word(copy, FLISKADEE_WORD_DELAY_SLOT, 0);
+    fliskadee_set_word(copy, FLISKADEE_WORD_SR, UINT32_C(1) << 30);
+    fliskadee_set_word(ram, 0, single);
     fliskadee_run(copy, sizeof copy, ram, sizeof ram, 1);
     return flag_of(copy);
 }
@@ -388,14 +399,14 @@ static void print_parting(const struct pair *pair, const struct stored *stored, 
     uint32_t flags[2] = {flag_of(pair->now[0].image.data), flag_of(pair->now[1].image.data)};
     printf("They part at step %" PRIu64 ".\n", step);
     print_sides(pair);
-    for (unsigned word = 0; word < IMAGE_WORDS; word++)
+    for (unsigned word = 0; word < FLISKADEE_IMAGE_WORDS; word++)
         if (newly_apart(pair, word))
             print_difference(pair->now[0].image.data, pair->now[1].image.data, word);
     for (unsigned i = 0; i < 2; i++)
         if (stored->equal[i] && !ram_word_equal(pair, stored->word[i])
             && (i == 0 || !stored->equal[0] || stored->word[0] != stored->word[1]))
             print_ram_word(&pair->now[0].ram, &pair->now[1].ram, stored->word[i]);
-    if (newly_apart(pair, WORD_COP2 + COP2_FLAG))
+    if (newly_apart(pair, FLISKADEE_WORD_COP2 + FLISKADEE_COP2_FLAG))
         print_flag_sides(flags[0], flags[1]);
     print_inputs(pair);
 }
@@ -404,9 +415,9 @@ static void list_start(struct pair *pair)
 {
     const uint8_t *first = pair->now[0].image.data;
     const uint8_t *second = pair->now[1].image.data;
-    for (unsigned word = 0; word < IMAGE_WORDS; word++)
-        pair->apart_at_start[word] = word_at(first, word) != word_at(second, word);
-    if (memcmp(first, second, IMAGE_BYTES) == 0
+    for (unsigned word = 0; word < FLISKADEE_IMAGE_WORDS; word++)
+        pair->apart_at_start[word] = !words_equal(first, second, word);
+    if (memcmp(first, second, FLISKADEE_IMAGE_BYTES) == 0
         && memcmp(pair->now[0].ram.data, pair->now[1].ram.data, pair->now[0].ram.length) == 0)
         return;
     printf("Different at the start already, and not counted:\n");

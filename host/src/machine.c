@@ -99,20 +99,20 @@ bool fetch_word(const struct bytes *ram, uint32_t address, uint32_t *word)
     uint64_t window = fliskadee_window(ram->data, ram->length, address, 4);
     if ((window & 0xFFFFFFFF) != 4)
         return false;
-    *word = word_at(ram->data + (window >> 32), 0);
+    *word = fliskadee_get_word(ram->data + (window >> 32), 0);
     return true;
 }
 
 bool next_instruction(const struct machine *machine, uint32_t *word)
 {
-    uint32_t pc = word_at(machine->image.data, WORD_PC);
-    bool user = (word_at(machine->image.data, WORD_SR) >> 1 & 1) != 0;
+    uint32_t pc = fliskadee_get_word(machine->image.data, FLISKADEE_WORD_PC);
+    bool user = (fliskadee_get_word(machine->image.data, FLISKADEE_WORD_SR) >> 1 & 1) != 0;
     return pc % 4 == 0 && !(user && pc >> 31 != 0) && fetch_word(&machine->ram, pc, word);
 }
 
 void print_instruction(const struct machine *machine, const char *label)
 {
-    uint32_t pc = word_at(machine->image.data, WORD_PC);
+    uint32_t pc = fliskadee_get_word(machine->image.data, FLISKADEE_WORD_PC);
     uint32_t word;
     char text[128];
     if (!fetch_word(&machine->ram, pc, &word))
@@ -129,14 +129,14 @@ int print_answer(struct outcome outcome, const struct machine *machine)
         return STATUS_FINE;
     case FLISKADEE_REFUSED_IMAGE_LENGTH:
         complain("code 1: refused, the image has %zu bytes in place of %d; nothing was run.", machine->image.length,
-                 IMAGE_BYTES);
+                 FLISKADEE_IMAGE_BYTES);
         return STATUS_TROUBLE;
     case FLISKADEE_REFUSED_IMAGE_FORM:
         printf("Code 2: refused, the image is not well formed (the command check says why). Nothing was run.\n");
         return STATUS_FINDING;
     case FLISKADEE_REFUSED_RAM_LENGTH:
         complain("code 3: refused, the RAM has %zu bytes in place of a multiple of 4 from %d to %d; nothing was run.",
-                 machine->ram.length, RAM_LEAST, RAM_MOST);
+                 machine->ram.length, RAM_LEAST, FLISKADEE_MOST_RAM);
         return STATUS_TROUBLE;
     case FLISKADEE_REFUSED_COUNT: complain("code 4: refused, the step count is too large; nothing was run."); return STATUS_TROUBLE;
     case FLISKADEE_UNLISTED:

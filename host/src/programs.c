@@ -65,8 +65,8 @@ static const struct {
     {"bignum", 161, 1875},        /* the last four of the 2500th Fibonacci number */
 };
 
-static uint8_t image[IMAGE_BYTES];
-static uint8_t ram[RAM_MOST];
+static uint8_t image[FLISKADEE_IMAGE_BYTES];
+static uint8_t ram[FLISKADEE_MOST_RAM];
 static uint32_t expected[RESULT_WORDS + 1];
 
 static size_t ram_word(uint32_t address)
@@ -77,18 +77,18 @@ static size_t ram_word(uint32_t address)
 static void load(const struct program *program)
 {
     memset(ram, 0, sizeof ram);
-    set_word_at(ram, ram_word(VECTOR), WAIT_HERE);
+    fliskadee_set_word(ram, ram_word(VECTOR), WAIT_HERE);
     for (size_t i = 0; i < program->length; i++)
-        set_word_at(ram, ram_word(ENTRY) + i, program->words[i]);
-    fresh_image(image);
-    set_word_at(image, WORD_PC, ENTRY);
-    set_word_at(image, WORD_NEXT_PC, ENTRY + 4);
+        fliskadee_set_word(ram, ram_word(ENTRY) + i, program->words[i]);
+    fliskadee_fresh_image(image);
+    fliskadee_set_word(image, FLISKADEE_WORD_PC, ENTRY);
+    fliskadee_set_word(image, FLISKADEE_WORD_NEXT_PC, ENTRY + 4);
 }
 
 /* A program may put a handler of its own at the vector; only the first one waits there for ever. */
 static bool has_ended(void)
 {
-    return (word_at(image, WORD_PC) & ~4u) == VECTOR && word_at(ram, ram_word(VECTOR)) == WAIT_HERE;
+    return (fliskadee_get_word(image, FLISKADEE_WORD_PC) & ~4u) == VECTOR && fliskadee_get_word(ram, ram_word(VECTOR)) == WAIT_HERE;
 }
 
 /* Runs until an exception ends the program, in pieces. */
@@ -99,19 +99,19 @@ static bool run_to_end(const char *name, int *pieces)
         uint64_t answer = fliskadee_run(image, sizeof image, ram, sizeof ram, PIECE);
         if (answer != PIECE) {
             printf("%s: failed, the library answers code %u after %u steps of piece %d, PC %08X\n", name,
-                   FLISKADEE_CODE(answer), (unsigned)FLISKADEE_STEPS(answer), piece, (unsigned)word_at(image, WORD_PC));
+                   FLISKADEE_CODE(answer), (unsigned)FLISKADEE_STEPS(answer), piece, (unsigned)fliskadee_get_word(image, FLISKADEE_WORD_PC));
             return false;
         }
     }
     if (!has_ended()) {
-        printf("%s: failed, it does not end; PC %08X\n", name, (unsigned)word_at(image, WORD_PC));
+        printf("%s: failed, it does not end; PC %08X\n", name, (unsigned)fliskadee_get_word(image, FLISKADEE_WORD_PC));
         return false;
     }
     *pieces = piece;
-    unsigned code = word_at(image, WORD_CAUSE) >> 2 & 31;
-    if (code != 8 || word_at(image, 2) != END_MARK) {
+    unsigned code = fliskadee_get_word(image, FLISKADEE_WORD_CAUSE) >> 2 & 31;
+    if (code != 8 || fliskadee_get_word(image, 2) != END_MARK) {
         printf("%s: failed, it ended by exception %u at %08X, BADV %08X\n", name, code,
-               (unsigned)word_at(image, WORD_EPC), (unsigned)word_at(image, WORD_BADV));
+               (unsigned)fliskadee_get_word(image, FLISKADEE_WORD_EPC), (unsigned)fliskadee_get_word(image, FLISKADEE_WORD_BADV));
         return false;
     }
     return true;
@@ -119,13 +119,13 @@ static bool run_to_end(const char *name, int *pieces)
 
 static bool compare(const char *name, uint32_t count)
 {
-    uint32_t got = word_at(ram, ram_word(RESULTS));
+    uint32_t got = fliskadee_get_word(ram, ram_word(RESULTS));
     if (got != count) {
         printf("%s: failed, %u words of results in place of %u\n", name, (unsigned)got, (unsigned)count);
         return false;
     }
     for (uint32_t i = 0; i < count; i++) {
-        uint32_t word = word_at(ram, ram_word(RESULTS) + 1 + i);
+        uint32_t word = fliskadee_get_word(ram, ram_word(RESULTS) + 1 + i);
         if (word != expected[i]) {
             printf("%s: failed, word %u of the results is %08X in place of %08X\n", name, (unsigned)i, (unsigned)word,
                    (unsigned)expected[i]);

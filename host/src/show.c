@@ -1,8 +1,10 @@
 #include "show.h"
 
+#include <ctype.h>
 #include <stdbool.h>
 #include <stddef.h>
 
+#include "disassemble.h"
 #include "image.h"
 
 static const struct {
@@ -60,7 +62,7 @@ static void show_cop2(FILE *out, const uint8_t *image, unsigned number)
 {
     const struct cop2_register *name = &cop2_registers[number];
     uint32_t word = cop2_at(image, number);
-    fprintf(out, "%-8s  %08X  ", name->name, (unsigned)word);
+    fprintf(out, "%-8s  %08X  ", cop2_register_name(number), (unsigned)word);
     switch (name->kind) {
     case KIND_SIGNED: fprintf(out, "%ld", (long)(int32_t)word); break;
     case KIND_FIXED: fprintf(out, "%.5f", (int32_t)word / 65536.0); break;
@@ -81,9 +83,9 @@ static void show_cop2(FILE *out, const uint8_t *image, unsigned number)
 
 void show_word(FILE *out, const uint8_t *image, unsigned word)
 {
-    uint32_t value = word_at(image, word);
-    if (word >= WORD_COP2)
-        show_cop2(out, image, word - WORD_COP2);
+    uint32_t value = fliskadee_get_word(image, word);
+    if (word >= FLISKADEE_WORD_COP2)
+        show_cop2(out, image, word - FLISKADEE_WORD_COP2);
     else
         fprintf(out, "%-8s  %08X  %ld", word_name(word), (unsigned)value, (long)(int32_t)value);
 }
@@ -166,7 +168,7 @@ static void show_general(FILE *out, const uint8_t *image)
         for (unsigned column = 0; column < 4; column++) {
             unsigned word = row + 8 * column;
             fprintf(out, "%sr%-2u %-4s %08X", column == 0 ? "" : "   ", word, word_name(word),
-                   (unsigned)word_at(image, word));
+                   (unsigned)fliskadee_get_word(image, word));
         }
         fprintf(out, "\n");
     }
@@ -174,24 +176,24 @@ static void show_general(FILE *out, const uint8_t *image)
 
 static void show_control(FILE *out, const uint8_t *image)
 {
-    uint32_t waiting = word_at(image, WORD_LOAD_REGISTER);
-    fprintf(out, "HI        %08X\n", (unsigned)word_at(image, WORD_HI));
-    fprintf(out, "LO        %08X\n", (unsigned)word_at(image, WORD_LO));
-    fprintf(out, "PC        %08X\n", (unsigned)word_at(image, WORD_PC));
-    fprintf(out, "next PC   %08X\n", (unsigned)word_at(image, WORD_NEXT_PC));
+    uint32_t waiting = fliskadee_get_word(image, FLISKADEE_WORD_LOAD_REGISTER);
+    fprintf(out, "HI        %08X\n", (unsigned)fliskadee_get_word(image, FLISKADEE_WORD_HI));
+    fprintf(out, "LO        %08X\n", (unsigned)fliskadee_get_word(image, FLISKADEE_WORD_LO));
+    fprintf(out, "PC        %08X\n", (unsigned)fliskadee_get_word(image, FLISKADEE_WORD_PC));
+    fprintf(out, "next PC   %08X\n", (unsigned)fliskadee_get_word(image, FLISKADEE_WORD_NEXT_PC));
     if (waiting == 0)
         fprintf(out, "load delay: no register awaits a load\n");
     else if (waiting < 32)
         fprintf(out, "load delay: %s (r%u) becomes %08X after the next instruction\n", word_name(waiting), (unsigned)waiting,
-               (unsigned)word_at(image, WORD_LOAD_VALUE));
+               (unsigned)fliskadee_get_word(image, FLISKADEE_WORD_LOAD_VALUE));
     else
         fprintf(out, "load delay: register %lu, which does not exist\n", (unsigned long)waiting);
     fprintf(out, "delay slot: the next instruction is %s\n",
-           word_at(image, WORD_DELAY_SLOT) == 0 ? "not in one" : "in the delay slot of a jump or branch");
-    show_sr(out, word_at(image, WORD_SR));
-    show_cause(out, word_at(image, WORD_CAUSE));
-    fprintf(out, "EPC       %08X\n", (unsigned)word_at(image, WORD_EPC));
-    fprintf(out, "BADV      %08X\n", (unsigned)word_at(image, WORD_BADV));
+           fliskadee_get_word(image, FLISKADEE_WORD_DELAY_SLOT) == 0 ? "not in one" : "in the delay slot of a jump or branch");
+    show_sr(out, fliskadee_get_word(image, FLISKADEE_WORD_SR));
+    show_cause(out, fliskadee_get_word(image, FLISKADEE_WORD_CAUSE));
+    fprintf(out, "EPC       %08X\n", (unsigned)fliskadee_get_word(image, FLISKADEE_WORD_EPC));
+    fprintf(out, "BADV      %08X\n", (unsigned)fliskadee_get_word(image, FLISKADEE_WORD_BADV));
 }
 
 void show_image(FILE *out, const uint8_t *image)
@@ -209,8 +211,8 @@ void show_image(FILE *out, const uint8_t *image)
         show_cop2(out, image, number);
         fprintf(out, "\n");
     }
-    if (cop2_at(image, COP2_FLAG) != 0)
-        show_flag(out, cop2_at(image, COP2_FLAG), "                        ");
+    if (cop2_at(image, FLISKADEE_COP2_FLAG) != 0)
+        show_flag(out, cop2_at(image, FLISKADEE_COP2_FLAG), "                        ");
     if (wrong != 0)
         fprintf(out, "\nThis image is not well formed: %u word%s wrong. The command check says why.\n", wrong,
                wrong == 1 ? " is" : "s are");
@@ -243,33 +245,29 @@ enum {
     READS_DEPTH_CUE = READS_IR0 | READS_FC
 };
 
-static const struct {
-    unsigned number;
-    const char *name;
-    unsigned reads;
-} commands[] = {
-    {0x01, "RTPS", READS_V0 | READS_RT | READS_TR | READS_SCREEN},
-    {0x06, "NCLIP", READS_SXY},
-    {0x0C, "OP", READS_IR | READS_RT},
-    {0x10, "DPCS", READS_RGBC | READS_DEPTH_CUE},
-    {0x11, "INTPL", READS_IR | READS_DEPTH_CUE},
-    {0x12, "MVMVA", 0},
-    {0x13, "NCDS", READS_V0 | READS_LIGHT | READS_RGBC | READS_DEPTH_CUE},
-    {0x14, "CDP", READS_IR | READS_BK | READS_LCM | READS_RGBC | READS_DEPTH_CUE},
-    {0x16, "NCDT", READS_VERTICES | READS_LIGHT | READS_RGBC | READS_DEPTH_CUE},
-    {0x1B, "NCCS", READS_V0 | READS_LIGHT | READS_RGBC},
-    {0x1C, "CC", READS_IR | READS_BK | READS_LCM | READS_RGBC},
-    {0x1E, "NCS", READS_V0 | READS_LIGHT},
-    {0x20, "NCT", READS_VERTICES | READS_LIGHT},
-    {0x28, "SQR", READS_IR},
-    {0x29, "DCPL", READS_IR | READS_RGBC | READS_DEPTH_CUE},
-    {0x2A, "DPCT", READS_RGB_QUEUE | READS_DEPTH_CUE},
-    {0x2D, "AVSZ3", READS_SZ | READS_ZSF3},
-    {0x2E, "AVSZ4", READS_SZ | READS_ZSF4},
-    {0x30, "RTPT", READS_VERTICES | READS_RT | READS_TR | READS_SCREEN},
-    {0x3D, "GPF", READS_IR | READS_IR0},
-    {0x3E, "GPL", READS_IR | READS_IR0 | READS_MAC},
-    {0x3F, "NCCT", READS_VERTICES | READS_LIGHT | READS_RGBC},
+/* What each command reads, by its low six bits; of MVMVA, mvmva_reads says it. */
+static const unsigned command_reads[64] = {
+    [0x01] = READS_V0 | READS_RT | READS_TR | READS_SCREEN, /* RTPS */
+    [0x06] = READS_SXY, /* NCLIP */
+    [0x0C] = READS_IR | READS_RT, /* OP */
+    [0x10] = READS_RGBC | READS_DEPTH_CUE, /* DPCS */
+    [0x11] = READS_IR | READS_DEPTH_CUE, /* INTPL */
+    [0x13] = READS_V0 | READS_LIGHT | READS_RGBC | READS_DEPTH_CUE, /* NCDS */
+    [0x14] = READS_IR | READS_BK | READS_LCM | READS_RGBC | READS_DEPTH_CUE, /* CDP */
+    [0x16] = READS_VERTICES | READS_LIGHT | READS_RGBC | READS_DEPTH_CUE, /* NCDT */
+    [0x1B] = READS_V0 | READS_LIGHT | READS_RGBC, /* NCCS */
+    [0x1C] = READS_IR | READS_BK | READS_LCM | READS_RGBC, /* CC */
+    [0x1E] = READS_V0 | READS_LIGHT, /* NCS */
+    [0x20] = READS_VERTICES | READS_LIGHT, /* NCT */
+    [0x28] = READS_IR, /* SQR */
+    [0x29] = READS_IR | READS_RGBC | READS_DEPTH_CUE, /* DCPL */
+    [0x2A] = READS_RGB_QUEUE | READS_DEPTH_CUE, /* DPCT */
+    [0x2D] = READS_SZ | READS_ZSF3, /* AVSZ3 */
+    [0x2E] = READS_SZ | READS_ZSF4, /* AVSZ4 */
+    [0x30] = READS_VERTICES | READS_RT | READS_TR | READS_SCREEN, /* RTPT */
+    [0x3D] = READS_IR | READS_IR0, /* GPF */
+    [0x3E] = READS_IR | READS_IR0 | READS_MAC, /* GPL */
+    [0x3F] = READS_VERTICES | READS_LIGHT | READS_RGBC, /* NCCT */
 };
 
 static unsigned mvmva_reads(uint32_t instruction)
@@ -302,9 +300,9 @@ static void show_three(FILE *out, const uint8_t *image, const char *name, unsign
 
 static void vertex(const uint8_t *image, unsigned number, int32_t v[3])
 {
-    v[0] = low_half(cop2_at(image, COP2_VXY0 + 2 * number));
-    v[1] = high_half(cop2_at(image, COP2_VXY0 + 2 * number));
-    v[2] = low_half(cop2_at(image, COP2_VZ0 + 2 * number));
+    v[0] = low_half(cop2_at(image, FLISKADEE_COP2_VXY0 + 2 * number));
+    v[1] = high_half(cop2_at(image, FLISKADEE_COP2_VXY0 + 2 * number));
+    v[2] = low_half(cop2_at(image, FLISKADEE_COP2_VZ0 + 2 * number));
 }
 
 static int64_t floor_4096(int64_t value)
@@ -317,9 +315,9 @@ static void show_rotated(FILE *out, const uint8_t *image, const int32_t v[3])
 {
     int64_t sum[3];
     for (unsigned row = 0; row < 3; row++) {
-        sum[row] = (int64_t)(int32_t)cop2_at(image, COP2_TRX + row) * 4096;
+        sum[row] = (int64_t)(int32_t)cop2_at(image, FLISKADEE_COP2_TRX + row) * 4096;
         for (unsigned column = 0; column < 3; column++)
-            sum[row] += (int64_t)matrix_element(image, COP2_RT, row, column) * v[column];
+            sum[row] += (int64_t)matrix_element(image, FLISKADEE_COP2_RT, row, column) * v[column];
     }
     fprintf(out, ", rotated and translated (%lld, %lld, %lld)", (long long)floor_4096(sum[0]), (long long)floor_4096(sum[1]),
            (long long)floor_4096(sum[2]));
@@ -354,40 +352,40 @@ static void show_groups(FILE *out, const uint8_t *image, unsigned reads)
         if ((reads & (unsigned)READS_V0 << number) != 0)
             show_vertex(out, image, number, (reads & READS_SCREEN) != 0);
     if ((reads & READS_IR) != 0)
-        show_three(out, image, "IR", COP2_IR1);
+        show_three(out, image, "IR", FLISKADEE_COP2_IR1);
     if ((reads & READS_IR0) != 0)
-        show_register(out, image, COP2_IR0);
+        show_register(out, image, FLISKADEE_COP2_IR0);
     if ((reads & READS_MAC) != 0)
-        show_three(out, image, "MAC", COP2_MAC1);
+        show_three(out, image, "MAC", FLISKADEE_COP2_MAC1);
     if ((reads & READS_RT) != 0)
-        show_matrix(out, image, "RT", COP2_RT);
+        show_matrix(out, image, "RT", FLISKADEE_COP2_RT);
     if ((reads & READS_TR) != 0)
-        show_three(out, image, "TR", COP2_TRX);
+        show_three(out, image, "TR", FLISKADEE_COP2_TRX);
     if ((reads & READS_LLM) != 0)
-        show_matrix(out, image, "LLM", COP2_LLM);
+        show_matrix(out, image, "LLM", FLISKADEE_COP2_LLM);
     if ((reads & READS_BK) != 0)
-        show_three(out, image, "BK", COP2_RBK);
+        show_three(out, image, "BK", FLISKADEE_COP2_RBK);
     if ((reads & READS_LCM) != 0)
-        show_matrix(out, image, "LCM", COP2_LCM);
+        show_matrix(out, image, "LCM", FLISKADEE_COP2_LCM);
     if ((reads & READS_FC) != 0)
-        show_three(out, image, "FC", COP2_RFC);
+        show_three(out, image, "FC", FLISKADEE_COP2_RFC);
     if ((reads & READS_RGBC) != 0)
-        show_register(out, image, COP2_RGBC);
+        show_register(out, image, FLISKADEE_COP2_RGBC);
     if ((reads & READS_RGB_QUEUE) != 0)
-        show_registers(out, image, COP2_RGB0, 3);
+        show_registers(out, image, FLISKADEE_COP2_RGB0, 3);
     if ((reads & READS_SXY) != 0)
-        show_registers(out, image, COP2_SXY0, 3);
+        show_registers(out, image, FLISKADEE_COP2_SXY0, 3);
     if ((reads & READS_SZ) != 0)
-        show_registers(out, image, COP2_SZ0, 4);
+        show_registers(out, image, FLISKADEE_COP2_SZ0, 4);
     if ((reads & READS_ZSF3) != 0)
-        show_register(out, image, COP2_ZSF3);
+        show_register(out, image, FLISKADEE_COP2_ZSF3);
     if ((reads & READS_ZSF4) != 0)
-        show_register(out, image, COP2_ZSF4);
+        show_register(out, image, FLISKADEE_COP2_ZSF4);
     if ((reads & READS_SCREEN) != 0)
-        show_registers(out, image, COP2_OFX, 5);
+        show_registers(out, image, FLISKADEE_COP2_OFX, 5);
     if ((reads & READS_MATRIX_3) != 0)
-        fprintf(out, "  matrix 3: -96 96 %ld; %ld three times; %ld three times\n", (long)(int32_t)cop2_at(image, COP2_IR0),
-               (long)matrix_element(image, COP2_RT, 0, 2), (long)matrix_element(image, COP2_RT, 1, 1));
+        fprintf(out, "  matrix 3: -96 96 %ld; %ld three times; %ld three times\n", (long)(int32_t)cop2_at(image, FLISKADEE_COP2_IR0),
+               (long)matrix_element(image, FLISKADEE_COP2_RT, 0, 2), (long)matrix_element(image, FLISKADEE_COP2_RT, 1, 1));
 }
 
 void show_inputs(FILE *out, const uint8_t *image, uint32_t instruction)
@@ -395,14 +393,16 @@ void show_inputs(FILE *out, const uint8_t *image, uint32_t instruction)
     if (instruction >> 25 != 0x25) {
         unsigned general = instruction >> 16 & 31;
         fprintf(out, "The value written to FLAG is that of %s (r%u): %08X\n", word_name(general), general,
-               (unsigned)word_at(image, general));
+               (unsigned)fliskadee_get_word(image, general));
         return;
     }
-    for (size_t i = 0; i < sizeof commands / sizeof commands[0]; i++) {
-        if (commands[i].number != (instruction & 63))
-            continue;
-        fprintf(out, "Inputs of %s before the step (sf = %u, lm = %u)\n", commands[i].name, (unsigned)(instruction >> 19 & 1),
-               (unsigned)(instruction >> 10 & 1));
-        show_groups(out, image, commands[i].number == 0x12 ? mvmva_reads(instruction) : commands[i].reads);
-    }
+    const char *name = gte_command_name(instruction);
+    if (name == NULL)
+        return;
+    fprintf(out, "Inputs of ");
+    for (; *name != '\0'; name++)
+        fputc(toupper((unsigned char)*name), out);
+    fprintf(out, " before the step (sf = %u, lm = %u)\n", (unsigned)(instruction >> 19 & 1),
+            (unsigned)(instruction >> 10 & 1));
+    show_groups(out, image, (instruction & 63) == 0x12 ? mvmva_reads(instruction) : command_reads[instruction & 63]);
 }

@@ -21,9 +21,9 @@ static bool read_image(const char *path, struct bytes *image)
 {
     if (!read_file(path, FILE_MOST, image))
         return false;
-    if (image->length == IMAGE_BYTES)
+    if (image->length == FLISKADEE_IMAGE_BYTES)
         return true;
-    complain("%s has %zu bytes; an image has %d.", path, image->length, IMAGE_BYTES);
+    complain("%s has %zu bytes; an image has %d.", path, image->length, FLISKADEE_IMAGE_BYTES);
     free(image->data);
     image->data = NULL;
     return false;
@@ -139,14 +139,14 @@ struct exceptions {
 static struct outcome run_counting(struct machine *machine, uint64_t count, struct exceptions *exceptions)
 {
     enum { FOLLOWED = 10000000 };
-    uint8_t before[IMAGE_BYTES];
+    uint8_t before[FLISKADEE_IMAGE_BYTES];
     struct outcome outcome = run_piece(machine, 0);
     memset(exceptions, 0, sizeof *exceptions);
     exceptions->counted = count <= FOLLOWED;
     if (!was_run(outcome) || !exceptions->counted)
         return was_run(outcome) ? run_steps(machine, count) : outcome;
     while (outcome.steps < count) {
-        memcpy(before, machine->image.data, IMAGE_BYTES);
+        memcpy(before, machine->image.data, FLISKADEE_IMAGE_BYTES);
         struct outcome step = run_piece(machine, 1);
         outcome.code = step.code;
         if (step.code != FLISKADEE_DONE)
@@ -154,7 +154,7 @@ static struct outcome run_counting(struct machine *machine, uint64_t count, stru
         outcome.steps++;
         if (took_exception(before, machine->image.data) && exceptions->number++ == 0) {
             exceptions->first = outcome.steps;
-            exceptions->code = word_at(machine->image.data, WORD_CAUSE) >> 2 & 31;
+            exceptions->code = fliskadee_get_word(machine->image.data, FLISKADEE_WORD_CAUSE) >> 2 & 31;
         }
     }
     return outcome;
@@ -213,7 +213,7 @@ static int command_show(int count, char **arguments)
 static void tell_wrong_word(void *context, unsigned word, const char *why)
 {
     const uint8_t *image = context;
-    printf("word %u (%s) is %08X: %s\n", word, word_name(word), (unsigned)word_at(image, word), why);
+    printf("word %u (%s) is %08X: %s\n", word, word_name(word), (unsigned)fliskadee_get_word(image, word), why);
 }
 
 /* What the library itself says of an image; the RAM only has to be of good length. */
@@ -230,8 +230,8 @@ static int command_check(int count, char **arguments)
     (void)count;
     if (!read_file(arguments[0], FILE_MOST, &image))
         return STATUS_TROUBLE;
-    if (image.length != IMAGE_BYTES) {
-        printf("The file has %zu bytes; an image has %d.\n", image.length, IMAGE_BYTES);
+    if (image.length != FLISKADEE_IMAGE_BYTES) {
+        printf("The file has %zu bytes; an image has %d.\n", image.length, FLISKADEE_IMAGE_BYTES);
         expected = FLISKADEE_REFUSED_IMAGE_LENGTH;
     } else {
         unsigned wrong = check_image(image.data, tell_wrong_word, image.data);
@@ -285,9 +285,9 @@ static bool read_two_machines(struct machine machines[2], char **arguments)
 static bool are_images(const struct machine machines[2], char **arguments)
 {
     for (unsigned i = 0; i < 2; i++) {
-        if (machines[i].image.length == IMAGE_BYTES)
+        if (machines[i].image.length == FLISKADEE_IMAGE_BYTES)
             continue;
-        complain("%s has %zu bytes; an image has %d.", arguments[2 * i], machines[i].image.length, IMAGE_BYTES);
+        complain("%s has %zu bytes; an image has %d.", arguments[2 * i], machines[i].image.length, FLISKADEE_IMAGE_BYTES);
         return false;
     }
     return true;
@@ -390,17 +390,17 @@ static int command_part(int count, char **arguments)
 /* The machine before the found step is in `before`, the one after it in `after`. */
 static void print_found(unsigned bit, uint64_t step, const struct machine *before, const struct machine *after)
 {
-    uint32_t pc = word_at(before->image.data, WORD_PC);
+    uint32_t pc = fliskadee_get_word(before->image.data, FLISKADEE_WORD_PC);
     uint32_t word = 0;
     printf("FLAG bit %u came up at step %" PRIu64 ".\n", bit, step);
     printf("  bit %u: %s\n\n", bit, flag_meaning(bit));
     print_instruction(before, "instruction ");
-    if (word_at(before->image.data, WORD_DELAY_SLOT) != 0)
+    if (fliskadee_get_word(before->image.data, FLISKADEE_WORD_DELAY_SLOT) != 0)
         printf("It stands in the delay slot of a jump or branch.\n");
-    printf("\nFLAG before %08X\n", (unsigned)cop2_at(before->image.data, COP2_FLAG));
-    show_flag(stdout, cop2_at(before->image.data, COP2_FLAG), "  ");
-    printf("FLAG after  %08X\n", (unsigned)cop2_at(after->image.data, COP2_FLAG));
-    show_flag(stdout, cop2_at(after->image.data, COP2_FLAG), "  ");
+    printf("\nFLAG before %08X\n", (unsigned)cop2_at(before->image.data, FLISKADEE_COP2_FLAG));
+    show_flag(stdout, cop2_at(before->image.data, FLISKADEE_COP2_FLAG), "  ");
+    printf("FLAG after  %08X\n", (unsigned)cop2_at(after->image.data, FLISKADEE_COP2_FLAG));
+    show_flag(stdout, cop2_at(after->image.data, FLISKADEE_COP2_FLAG), "  ");
     printf("\n");
     if (fetch_word(&before->ram, pc, &word))
         show_inputs(stdout, before->image.data, word);
@@ -453,7 +453,7 @@ static void print_set_again(struct machine *machine, unsigned bit, uint64_t done
         if (run_piece(machine, 1).code != FLISKADEE_DONE)
             break;
         done++;
-        if (!writes || (cop2_at(machine->image.data, COP2_FLAG) >> bit & 1) == 0)
+        if (!writes || (cop2_at(machine->image.data, FLISKADEE_COP2_FLAG) >> bit & 1) == 0)
             continue;
         if (times++ < LISTED)
             printf("%s %" PRIu64, times == 1 ? "\nThe bit was set again by step" : ",", done);
@@ -494,7 +494,7 @@ static int command_find_flag(int count, char **arguments)
         free_machine(&machine);
         return STATUS_TROUBLE;
     }
-    if (machine.image.length == IMAGE_BYTES && (cop2_at(machine.image.data, COP2_FLAG) >> bit & 1) != 0)
+    if (machine.image.length == FLISKADEE_IMAGE_BYTES && (cop2_at(machine.image.data, FLISKADEE_COP2_FLAG) >> bit & 1) != 0)
         printf("FLAG bit %u is set at the start already; looking for the next time it comes up after being clear.\n",
                (unsigned)bit);
     struct outcome outcome = search_flag(&machine, &before, steps, UINT32_C(1) << bit);
@@ -513,7 +513,7 @@ static int command_disassemble(int count, char **arguments)
     uint64_t words;
     (void)count;
     if (!parse_argument(arguments[1], "ADDRESS", 0, UINT32_MAX, &address)
-        || !parse_argument(arguments[2], "COUNT", 1, RAM_MOST / 4, &words))
+        || !parse_argument(arguments[2], "COUNT", 1, FLISKADEE_MOST_RAM / 4, &words))
         return STATUS_TROUBLE;
     if (address % 4 != 0) {
         complain("ADDRESS must be a multiple of 4, as instructions are, not %s.", arguments[1]);
@@ -522,8 +522,8 @@ static int command_disassemble(int count, char **arguments)
     if (!read_file(arguments[0], FILE_MOST, &ram))
         return STATUS_TROUBLE;
     uint64_t window = fliskadee_window(ram.data, ram.length, (uint32_t)address, 4 * words);
-    if (ram.length % 4 != 0 || ram.length < RAM_LEAST || ram.length > RAM_MOST) {
-        complain("%s has %zu bytes; a RAM has a multiple of 4 from %d to %d.", arguments[0], ram.length, RAM_LEAST, RAM_MOST);
+    if (ram.length % 4 != 0 || ram.length < RAM_LEAST || ram.length > FLISKADEE_MOST_RAM) {
+        complain("%s has %zu bytes; a RAM has a multiple of 4 from %d to %d.", arguments[0], ram.length, RAM_LEAST, FLISKADEE_MOST_RAM);
         free(ram.data);
         return STATUS_TROUBLE;
     }
@@ -535,7 +535,7 @@ static int command_disassemble(int count, char **arguments)
     }
     for (uint64_t i = 0; i < words; i++) {
         uint32_t pc = (uint32_t)(address + 4 * i);
-        uint32_t word = word_at(ram.data + (window >> 32), i);
+        uint32_t word = fliskadee_get_word(ram.data + (window >> 32), i);
         char text[128];
         disassemble(word, pc, text, sizeof text);
         printf("%08X  %08X  %s\n", (unsigned)pc, (unsigned)word, text);
@@ -561,7 +561,7 @@ static bool set_from_argument(uint8_t *image, const char *argument, bool *next_p
         complain("%s.", why);
         return false;
     }
-    if (strcasecmp(name, word_name(WORD_NEXT_PC)) == 0)
+    if (strcasecmp(name, word_name(FLISKADEE_WORD_NEXT_PC)) == 0)
         *next_pc_given = true;
     return true;
 }
@@ -590,19 +590,19 @@ static bool start_image(uint8_t *image, const char *from)
 {
     struct bytes bytes;
     if (from == NULL) {
-        fresh_image(image);
+        fliskadee_fresh_image(image);
         return true;
     }
     if (!read_image(from, &bytes))
         return false;
-    memcpy(image, bytes.data, IMAGE_BYTES);
+    memcpy(image, bytes.data, FLISKADEE_IMAGE_BYTES);
     free(bytes.data);
     return true;
 }
 
 static int command_make_image(int count, char **arguments)
 {
-    uint8_t image[IMAGE_BYTES];
+    uint8_t image[FLISKADEE_IMAGE_BYTES];
     const char *path = NULL;
     const char *from = NULL;
     bool replace = false;
@@ -636,7 +636,7 @@ static int command_make_image(int count, char **arguments)
     }
     /* An image that is taken over keeps its next PC, unless its PC is set. */
     if (!next_pc_given && (from == NULL || pc_given))
-        set_word_at(image, WORD_NEXT_PC, word_at(image, WORD_PC) + 4);
+        fliskadee_set_word(image, FLISKADEE_WORD_NEXT_PC, fliskadee_get_word(image, FLISKADEE_WORD_PC) + 4);
     settle_image(image);
     if (check_image(image, tell_refused_word, &told) != 0)
         return STATUS_TROUBLE;
@@ -666,7 +666,7 @@ static bool store_from_argument(const struct bytes *ram, const char *argument)
         complain("a word at %s is not in this RAM of %zu bytes, or not at a multiple of 4.", address_text, ram->length);
         return false;
     }
-    set_word_at(ram->data + (window >> 32), 0, (uint32_t)word);
+    fliskadee_set_word(ram->data + (window >> 32), 0, (uint32_t)word);
     return true;
 }
 
@@ -697,7 +697,7 @@ static int command_make_ram(int count, char **arguments)
         complain("make-ram takes FILE BYTES; see fliskadee make-ram --help.");
         return STATUS_TROUBLE;
     }
-    if (!parse_argument(positional[1], "BYTES", RAM_LEAST, RAM_MOST, &length))
+    if (!parse_argument(positional[1], "BYTES", RAM_LEAST, FLISKADEE_MOST_RAM, &length))
         return STATUS_TROUBLE;
     if (length % 4 != 0) {
         complain("BYTES must be a multiple of 4, not %s.", positional[1]);
@@ -821,7 +821,7 @@ static void print_help(void)
     printf("fliskadee COMMAND ...\n\n"
            "Runs machines of the Fliskadee library (an R3000A with its geometry unit, GTE) from files, and looks at\n"
            "them. An image is a file of %d bytes with all registers; a RAM is a file of %d to %d bytes.\n\n",
-           IMAGE_BYTES, RAM_LEAST, RAM_MOST);
+           FLISKADEE_IMAGE_BYTES, RAM_LEAST, FLISKADEE_MOST_RAM);
     for (int i = 0; i < COMMANDS; i++)
         printf("  %s %s\n      %s\n", commands[i].name, commands[i].usage, commands[i].summary);
     printf("\nfliskadee COMMAND --help, or fliskadee help COMMAND, says more of each; --version names the interface.\n\n"
