@@ -3,6 +3,7 @@
 #include "disassemble.h"
 #include "model.h"
 
+#include <stdarg.h>
 #include <stdio.h>
 #include <string.h>
 
@@ -56,16 +57,29 @@ static const struct {
 
 enum { LANDED, LANDED_BY_EXCEPTION, DROPPED_BY_WRITE, DROPPED_BY_LOAD, MERGED, LOAD_EVENTS };
 
+static const char *const event_names[LOAD_EVENTS] = {"landed", "landed by an exception", "dropped by a write",
+                                                     "dropped by a load", "merged by LWL or LWR"};
+
+/* A window that is empty counts only where it is so for one reason. */
+enum { NOT_EMPTY, LENGTH_0_IN_RAM, LENGTH_0_ELSEWHERE, BAD_RAM_LENGTH, STARTS_OUTSIDE, ENDS_OUTSIDE, WINDOW_KINDS };
+
+static const char *const window_names[WINDOW_KINDS] = {"not empty", "length 0 in RAM", "length 0 elsewhere",
+                                                       "bad RAM length", "starts outside RAM", "ends outside RAM"};
+
+static const char *const exception_names[13] = {[4] = "AdEL", [5] = "AdES", [6] = "IBE", [7] = "DBE", [8] = "Sys",
+                                                [9] = "Bp", [10] = "RI", [11] = "CpU", [12] = "Ovf"};
+
 static uint64_t done[INSTRUCTIONS], trapped[INSTRUCTIONS], taken[INSTRUCTIONS], reserved_words;
 static uint64_t command_runs[COMMANDS][2][2]; /* by sf and lm */
 static uint64_t mvmva_forms[256]; /* by sf, mx, v, cv, lm */
 static uint64_t flag_set[COMMANDS][32], flag_clear[COMMANDS][32];
 static uint64_t exceptions[32][2]; /* by code, and in a delay slot */
 static uint64_t exceptions_user, exceptions_bev, steps_user;
-static uint64_t codes[6];
+static uint64_t run_codes[MODEL_UNLISTED + 1], search_codes[MODEL_FLAG_UP + 1];
 static uint64_t load_events[LOAD_EVENTS];
+static uint64_t windows[WINDOW_KINDS];
 
-static int instruction_index(uint32_t word)
+static int find_index(uint32_t word)
 {
     const char *name = instruction_name(word);
     int i;
@@ -75,6 +89,24 @@ static int instruction_index(uint32_t word)
             if (strcmp(names[i], name) == 0)
                 return i;
     return -1;
+}
+
+/* Words are met again and again, so what was found is kept. */
+static int instruction_index(uint32_t word)
+{
+    static struct {
+        bool known;
+        uint32_t word;
+        int index;
+    } kept[4096], *k;
+
+    k = &kept[(word ^ word >> 12 ^ word >> 24) % 4096];
+    if (!k->known || k->word != word) {
+        k->known = true;
+        k->word = word;
+        k->index = find_index(word);
+    }
+    return k->index;
 }
 
 static void count_command(uint32_t word, uint32_t flag)
@@ -152,15 +184,27 @@ static void count_step(const struct model *before, const struct model *after, en
         count_command(word, after->cop2[63]);
 }
 
-void coverage_add(struct test_case *c, uint64_t answer)
+static void count_window(const struct window *w)
 {
-    uint64_t steps = answer % MODEL_CODE_UNIT, i;
+    uint32_t segment = w->address >> 29, place = w->address & 0x1FFFFFFF;
+    bool bad = w->ram_length % 4 != 0 || w->ram_length == 0 || w->ram_length > MODEL_RAM_MAXIMUM;
+    bool starts = (segment == 0 || segment == 4 || segment == 5) && place < w->ram_length;
+    bool ends = starts && w->length <= w->ram_length - place;
+
+    if (bad)
+        windows[BAD_RAM_LENGTH] += ends && w->length != 0;
+    else if (w->length == 0)
+        windows[starts ? LENGTH_0_IN_RAM : LENGTH_0_ELSEWHERE]++;
+    else
+        windows[ends ? NOT_EMPTY : starts ? ENDS_OUTSIDE : STARTS_OUTSIDE]++;
+}
+
+static void walk(struct test_case *c, uint64_t steps)
+{
     struct model machine, before;
     uint8_t code[4] = {0};
+    uint64_t i;
 
-    codes[answer / MODEL_CODE_UNIT]++;
-    if (answer / MODEL_CODE_UNIT >= 1 && answer / MODEL_CODE_UNIT <= 4)
-        return;
     model_load(&machine, c->image);
     for (i = 0; i < steps; i++) {
         enum model_outcome outcome;
@@ -183,6 +227,146 @@ void coverage_add(struct test_case *c, uint64_t answer)
             count_step(&before, &machine, outcome, c->ram, c->ram_length);
         }
     }
+}
+
+void coverage_add(struct test_case *c, const struct case_answers *answers)
+{
+    uint64_t code = answers->run / MODEL_CODE_UNIT;
+    unsigned i;
+
+    run_codes[code]++;
+    search_codes[answers->search / MODEL_CODE_UNIT]++;
+    for (i = 0; i < CASE_WINDOWS; i++)
+        count_window(&c->windows[i]);
+    if (code == MODEL_DONE || code == MODEL_UNLISTED)
+        walk(c, answers->run % MODEL_CODE_UNIT);
+}
+
+/* ---- What was reached --------------------------------------------------------- */
+
+/* Of one kind: how much was reached, and the first that was not. */
+struct tally {
+    const char *kind;
+    unsigned reached, all;
+    char missing[40];
+};
+
+static void tally(struct tally *t, bool reached, const char *format, ...)
+{
+    va_list arguments;
+
+    if (!reached && t->reached == t->all) {
+        va_start(arguments, format);
+        vsnprintf(t->missing, sizeof t->missing, format, arguments);
+        va_end(arguments);
+    }
+    t->reached += reached;
+    t->all++;
+}
+
+enum {
+    ALL_INSTRUCTIONS, ALL_COMMANDS, ALL_FORMS, ALL_MVMVA, BITS_SET, BITS_CLEAR, BITS_IMPOSSIBLE, OUTSIDE_SLOTS,
+    IN_SLOTS, ALL_EVENTS, RUN_CODES, SEARCH_CODES, ALL_WINDOWS, TALLIES
+};
+
+static void tally_instructions(struct tally *t)
+{
+    int i;
+
+    for (i = 0; i < INSTRUCTIONS; i++) { /* SYSCALL and BREAK only ever end in an exception */
+        bool ends = strcmp(names[i], "syscall") == 0 || strcmp(names[i], "break") == 0;
+
+        tally(t, (ends ? trapped[i] : done[i]) != 0, "%s", names[i]);
+    }
+}
+
+static void tally_flags(struct tally *t, unsigned i)
+{
+    const char *name = gte_command_name(commands[i].number);
+    uint32_t reachable = commands[i].reachable;
+    unsigned bit;
+
+    if (reachable & 0x7F87E000)
+        reachable |= 0x80000000;
+    for (bit = 12; bit < 32; bit++) {
+        if (reachable >> bit & 1) {
+            tally(&t[BITS_SET], flag_set[i][bit] != 0, "bit %u of %s", bit, name);
+            tally(&t[BITS_CLEAR], flag_clear[i][bit] != 0, "bit %u of %s", bit, name);
+        } else {
+            tally(&t[BITS_IMPOSSIBLE], flag_set[i][bit] == 0, "bit %u of %s", bit, name);
+        }
+    }
+}
+
+static void tally_commands(struct tally *t)
+{
+    unsigned i, form;
+
+    for (i = 0; i < COMMANDS; i++) {
+        const char *name = gte_command_name(commands[i].number);
+        const uint64_t *runs = &command_runs[i][0][0];
+
+        tally(&t[ALL_COMMANDS], (runs[0] | runs[1] | runs[2] | runs[3]) != 0, "%s", name);
+        for (form = 0; form < 4; form++)
+            tally(&t[ALL_FORMS], runs[form] != 0, "%s with sf %u, lm %u", name, form >> 1, form & 1);
+        tally_flags(t, i);
+    }
+    for (i = 0; i < 256; i++)
+        tally(&t[ALL_MVMVA], mvmva_forms[i] != 0, "%08x", 0x4A000012 | (i & 0x7F) << 13 | (i >> 7) << 10);
+}
+
+static void tally_all(struct tally t[TALLIES])
+{
+    static const char *const kinds[TALLIES] = {
+        [ALL_INSTRUCTIONS] = "instructions",
+        [ALL_COMMANDS] = "commands",
+        [ALL_FORMS] = "commands by sf and lm",
+        [ALL_MVMVA] = "forms of MVMVA",
+        [BITS_SET] = "FLAG bits set",
+        [BITS_CLEAR] = "FLAG bits clear",
+        [BITS_IMPOSSIBLE] = "FLAG bits that cannot be set and were not",
+        [OUTSIDE_SLOTS] = "exceptions outside delay slots",
+        [IN_SLOTS] = "exceptions in delay slots",
+        [ALL_EVENTS] = "ends of waiting loads",
+        [RUN_CODES] = "codes of the run",
+        [SEARCH_CODES] = "codes of the search",
+        [ALL_WINDOWS] = "kinds of windows",
+    };
+    unsigned i;
+
+    memset(t, 0, TALLIES * sizeof *t);
+    for (i = 0; i < TALLIES; i++)
+        t[i].kind = kinds[i];
+    tally_instructions(&t[ALL_INSTRUCTIONS]);
+    tally_commands(t);
+    for (i = 4; i <= 12; i++) {
+        tally(&t[OUTSIDE_SLOTS], exceptions[i][0] != 0, "%s", exception_names[i]);
+        tally(&t[IN_SLOTS], exceptions[i][1] != 0, "%s", exception_names[i]);
+    }
+    for (i = 0; i < LOAD_EVENTS; i++)
+        tally(&t[ALL_EVENTS], load_events[i] != 0, "%s", event_names[i]);
+    for (i = 0; i <= MODEL_UNLISTED; i++) {
+        tally(&t[RUN_CODES], run_codes[i] != 0, "%u", i);
+        tally(&t[SEARCH_CODES], search_codes[i] != 0, "%u", i);
+    }
+    tally(&t[SEARCH_CODES], search_codes[MODEL_FLAG_UP] != 0, "%u", MODEL_FLAG_UP);
+    for (i = 0; i < WINDOW_KINDS; i++)
+        tally(&t[ALL_WINDOWS], windows[i] != 0, "%s", window_names[i]);
+}
+
+const char *coverage_missing(void)
+{
+    static char text[160 * TALLIES];
+    struct tally t[TALLIES];
+    size_t length = 0;
+    unsigned i;
+
+    tally_all(t);
+    for (i = 0; i < TALLIES; i++)
+        if (t[i].reached < t[i].all)
+            length += (size_t)snprintf(text + length, sizeof text - length, "%s%u of %u %s (the first missing is %s)",
+                                       length ? ", " : "", t[i].reached, t[i].all, t[i].kind, t[i].missing);
+    return length ? text : NULL;
 }
 
 /* ---- Printing --------------------------------------------------------------- */
@@ -222,56 +406,45 @@ static void print_flags(void)
     }
 }
 
+static void print_codes(const char *call, const uint64_t *codes, unsigned last)
+{
+    unsigned i;
+
+    printf("answers of the %s by code:", call);
+    for (i = 0; i <= last; i++)
+        if (i <= MODEL_UNLISTED || i == last)
+            printf(" %u: %llu", i, (unsigned long long)codes[i]);
+    printf("\n");
+}
+
+static void print_names(const char *title, const char *const *kinds, const uint64_t *counts, unsigned number)
+{
+    unsigned i;
+
+    printf("%s:\n", title);
+    for (i = 0; i < number; i++)
+        printf("  %-24s %9llu\n", kinds[i], (unsigned long long)counts[i]);
+}
+
 void coverage_print(void)
 {
-    static const char *const exception_names[13] = {[4] = "AdEL", [5] = "AdES", [6] = "IBE", [7] = "DBE", [8] = "Sys",
-                                                    [9] = "Bp", [10] = "RI", [11] = "CpU", [12] = "Ovf"};
-    static const char *const event_names[LOAD_EVENTS] = {"landed", "landed by an exception", "dropped by a write",
-                                                         "dropped by a load", "merged by LWL or LWR"};
-    unsigned i, bit, instructions = 0, listed = 0, forms = 0, mvmva = 0, set = 0, clear = 0, reachable = 0, wrong = 0;
-    unsigned plain = 0, slots = 0, reached_codes = 0;
+    struct tally t[TALLIES];
+    unsigned i;
 
     print_instructions();
     print_flags();
     printf("exceptions (outside, in a delay slot):\n");
-    for (i = 4; i <= 12; i++) {
+    for (i = 4; i <= 12; i++)
         printf("  %2u %-4s %9llu %9llu\n", i, exception_names[i], (unsigned long long)exceptions[i][0],
                (unsigned long long)exceptions[i][1]);
-        plain += exceptions[i][0] != 0;
-        slots += exceptions[i][1] != 0;
-    }
     printf("  from user mode %llu, with BEV %llu; steps in user mode %llu\n", (unsigned long long)exceptions_user,
            (unsigned long long)exceptions_bev, (unsigned long long)steps_user);
-    printf("waiting loads:\n");
-    for (i = 0; i < LOAD_EVENTS; i++)
-        printf("  %-24s %9llu\n", event_names[i], (unsigned long long)load_events[i]);
-    printf("answers by code:");
-    for (i = 0; i < 6; i++) {
-        printf(" %u: %llu", i, (unsigned long long)codes[i]);
-        reached_codes += codes[i] != 0;
-    }
-    printf("\n");
-
-    for (i = 0; i < INSTRUCTIONS; i++) /* SYSCALL and BREAK only ever end in an exception */
-        instructions += done[i] != 0 || trapped[i] != 0;
-    for (i = 0; i < COMMANDS; i++) {
-        uint64_t *by_form = &command_runs[i][0][0];
-
-        listed += (by_form[0] | by_form[1] | by_form[2] | by_form[3]) != 0;
-        forms += by_form[0] && by_form[1] && by_form[2] && by_form[3];
-        for (bit = 12; bit < 32; bit++) {
-            bool can = bit == 31 ? (commands[i].reachable & 0x7F87E000) != 0 : (commands[i].reachable >> bit & 1) != 0;
-
-            reachable += can;
-            set += can && flag_set[i][bit] != 0;
-            clear += can && flag_clear[i][bit] != 0;
-            wrong += !can && flag_set[i][bit] != 0;
-        }
-    }
-    for (i = 0; i < 256; i++)
-        mvmva += mvmva_forms[i] != 0;
-    printf("reached: %u of 68 instructions, %u of 22 commands (%u with every sf, lm), %u of 256 forms of MVMVA,\n"
-           "  FLAG bits set %u of %u, clear %u of %u, outside the table %u,\n"
-           "  %u of 9 exceptions, %u of 9 in a delay slot, %u of 6 codes\n",
-           instructions, listed, forms, mvmva, set, reachable, clear, reachable, wrong, plain, slots, reached_codes);
+    print_names("waiting loads", event_names, load_events, LOAD_EVENTS);
+    print_codes("run", run_codes, MODEL_UNLISTED);
+    print_codes("search", search_codes, MODEL_FLAG_UP);
+    print_names("windows", window_names, windows, WINDOW_KINDS);
+    printf("reached:\n");
+    tally_all(t);
+    for (i = 0; i < TALLIES; i++)
+        printf("  %3u of %3u %s\n", t[i].reached, t[i].all, t[i].kind);
 }

@@ -4,10 +4,18 @@
 
 #include "generate.h"
 
-/* Walks the case; its image and RAM are changed on the way. answer is the run's. */
-void coverage_add(struct test_case *c, uint64_t answer);
+/* What the model answered to the run and to the search. */
+struct case_answers {
+    uint64_t run, search;
+};
 
-/* Prints the tables and, last, one line with what was reached of what can be. */
+/* Walks the case's run; its image and RAM are changed on the way. */
+void coverage_add(struct test_case *c, const struct case_answers *answers);
+
+/* Prints the tables and, last, what was reached of what can be. */
 void coverage_print(void);
+
+/* What the cases did not reach of what can be, in one sentence; a null pointer if they reached all. */
+const char *coverage_missing(void);
 
 #endif

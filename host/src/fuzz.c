@@ -1,10 +1,12 @@
 /*
  * Differential test: random cases through the library and through the model.
+ * Each is run, searched for a bit of FLAG, and asked for windows of RAM.
  *
- *   fuzz N SEED [--coverage] [--case K]
+ *   fuzz N SEED [--coverage] [--whole] [--case K]
  *
  * Runs cases 0..N-1 of the seed, or case K alone. Status 0 when all agree,
- * 1 at the first difference, 2 on bad usage.
+ * 1 at the first difference or where --whole is given and the cases did not
+ * reach all that can be reached, 2 on bad usage.
  */
 #define _DEFAULT_SOURCE
 
@@ -14,6 +16,7 @@
 #include "fliskadee.h"
 #include "model.h"
 
+#include <errno.h>
 #include <signal.h>
 #include <stdio.h>
 #include <stdlib.h>
@@ -95,32 +98,47 @@ static bool guards_intact(const struct buffer *b)
 /* ---- The two sides ------------------------------------------------------------- */
 
 typedef uint64_t run_function(uint8_t *, size_t, uint8_t *, size_t, uint64_t);
+typedef uint64_t find_flag_function(uint8_t *, size_t, uint8_t *, size_t, uint64_t, uint32_t);
 
 struct side {
-    const char *name;
     run_function *run;
+    find_flag_function *find_flag;
     struct area image_area, ram_area;
     struct buffer image, ram;
     uint64_t answer;
 };
 
-static struct side library = {.name = "library", .run = fliskadee_run};
-static struct side model = {.name = "model", .run = model_run};
+static struct side library = {.run = fliskadee_run, .find_flag = fliskadee_find_flag};
+static struct side model = {.run = model_run, .find_flag = model_find_flag};
 
-/* Sets the side's buffers to the case, and runs it. */
-static void run_side(struct side *s, const struct test_case *c, uint64_t count)
+/* A call on a machine: the run, or the search with a mask. */
+struct call {
+    bool search;
+    uint64_t count;
+    uint32_t mask;
+};
+
+/* Makes the call on the side as it stands. */
+static uint64_t make_call(struct side *s, const struct call *call)
+{
+    if (call->search)
+        return s->find_flag(s->image.bytes, s->image.length, s->ram.bytes, s->ram.length, call->count, call->mask);
+    return s->run(s->image.bytes, s->image.length, s->ram.bytes, s->ram.length, call->count);
+}
+
+static uint64_t run_on(struct side *s, uint64_t count)
+{
+    return make_call(s, &(struct call){false, count, 0});
+}
+
+/* Sets the side's buffers to the case, and makes the call. */
+static void call_side(struct side *s, const struct test_case *c, const struct call *call)
 {
     s->image = place(&s->image_area, c->image_length, c->placement);
     s->ram = place(&s->ram_area, c->ram_length, c->placement >> 8);
     memcpy(s->image.bytes, c->image, c->image_length);
     memcpy(s->ram.bytes, c->ram, c->ram_length);
-    s->answer = s->run(s->image.bytes, s->image.length, s->ram.bytes, s->ram.length, count);
-}
-
-/* Runs the side on from where it stands. */
-static uint64_t run_on(struct side *s, uint64_t count)
-{
-    return s->run(s->image.bytes, s->image.length, s->ram.bytes, s->ram.length, count);
+    s->answer = make_call(s, call);
 }
 
 static bool same_bytes(const struct buffer *a, const struct buffer *b)
@@ -134,10 +152,12 @@ static bool agree(void)
            same_bytes(&library.ram, &model.ram) && guards_intact(&library.image) && guards_intact(&library.ram);
 }
 
-static bool agree_with_count(const struct test_case *c, uint64_t count)
+/* Whether the two agree on the call, but with this count. */
+static bool agree_with_count(const struct test_case *c, struct call call, uint64_t count)
 {
-    run_side(&library, c, count);
-    run_side(&model, c, count);
+    call.count = count;
+    call_side(&library, c, &call);
+    call_side(&model, c, &call);
     return agree();
 }
 
@@ -174,10 +194,13 @@ static const char *image_word_name(unsigned number)
     return cop2_register_name(number - 44);
 }
 
-static void print_case(const struct test_case *c)
+static void print_case(const struct test_case *c, const struct call *call)
 {
-    printf("seed %llu, case %llu: %s; image of %zu bytes, RAM of %zu bytes, count %llu\n", (unsigned long long)seed,
-           (unsigned long long)case_number, c->kind, c->image_length, c->ram_length, (unsigned long long)c->count);
+    printf("seed %llu, case %llu: %s; image of %zu bytes, RAM of %zu bytes, count %llu", (unsigned long long)seed,
+           (unsigned long long)case_number, c->kind, c->image_length, c->ram_length, (unsigned long long)call->count);
+    if (call->search)
+        printf(", search with mask %08x", (unsigned)call->mask);
+    printf("\n");
 }
 
 static void print_state(const struct side *s)
@@ -234,47 +257,56 @@ static void print_differences(void)
 }
 
 /* Finds a step at which the two part: they agree with count - 1 and differ with count. */
-static void report_difference(const struct test_case *c)
+static void report_difference(const struct test_case *c, const struct call *call)
 {
     uint64_t good = 0, bad = 1;
 
     printf("DIFFERENCE\n");
-    print_case(c);
-    if (refused(library.answer) || refused(model.answer) || !agree_with_count(c, 0)) {
+    print_case(c, call);
+    if (refused(library.answer) || refused(model.answer) || !agree_with_count(c, *call, 0)) {
         print_differences();
         return;
     }
-    while (bad < c->count && agree_with_count(c, bad)) {
+    while (bad < call->count && agree_with_count(c, *call, bad)) {
         good = bad;
         bad *= 2;
     }
-    if (bad > c->count)
-        bad = c->count;
+    if (bad > call->count)
+        bad = call->count;
     while (bad - good > 1) {
         uint64_t middle = good + (bad - good) / 2;
 
-        if (agree_with_count(c, middle))
+        if (agree_with_count(c, *call, middle))
             good = middle;
         else
             bad = middle;
     }
-    agree_with_count(c, good);
+    agree_with_count(c, *call, good);
     printf("they agree after %llu steps and differ after %llu; before the step:\n", (unsigned long long)good,
            (unsigned long long)bad);
     print_state(&model);
     print_instruction(&model);
-    if (agree_with_count(c, bad))
+    if (agree_with_count(c, *call, bad))
         printf("  no difference when run again\n");
     print_differences();
 }
 
-static bool report_fault(const struct test_case *c, const char *what)
+static bool report_fault(const struct test_case *c, const struct call *call, const char *what)
 {
     printf("FAULT: %s\n", what);
-    print_case(c);
+    print_case(c, call);
     printf("  library code %u, steps %llu; model code %u, steps %llu\n", code_of(library.answer),
            (unsigned long long)(library.answer % MODEL_CODE_UNIT), code_of(model.answer),
            (unsigned long long)(model.answer % MODEL_CODE_UNIT));
+    return false;
+}
+
+static bool report_window(const struct window *w, const char *what, uint64_t got, uint64_t expected)
+{
+    printf("DIFFERENCE\nseed %llu, case %llu: window of %llu bytes at %08x in RAM of %zu bytes\n"
+           "  %s: library %016llx, model %016llx\n",
+           (unsigned long long)seed, (unsigned long long)case_number, (unsigned long long)w->length,
+           (unsigned)w->address, w->ram_length, what, (unsigned long long)got, (unsigned long long)expected);
     return false;
 }
 
@@ -293,109 +325,184 @@ static void on_signal(int number)
 /* ---- One case ---------------------------------------------------------------------- */
 
 /* Demand 1: an image once accepted is accepted again. Count 0 answers 0 and changes nothing. */
-static bool accepted_again(const struct test_case *c)
+static bool accepted_again(const struct test_case *c, const struct call *call)
 {
     if (run_on(&library, 0) != 0)
-        return report_fault(c, "the library refuses the image that it left");
+        return report_fault(c, call, "the library refuses the image that it left");
     if (!agree())
-        return report_fault(c, "a count of 0 changes something");
+        return report_fault(c, call, "a count of 0 changes something");
+    return true;
+}
+
+/* The two agree on the call, and the library kept its word about what it left. */
+static bool check_call(const struct test_case *c, const struct call *call)
+{
+    if (!agree_with_count(c, *call, call->count)) {
+        report_difference(c, call);
+        return false;
+    }
+    if (!refused(library.answer))
+        return accepted_again(c, call);
+    if (memcmp(library.image.bytes, c->image, c->image_length) != 0 ||
+        memcmp(library.ram.bytes, c->ram, c->ram_length) != 0)
+        return report_fault(c, call, "a refused call changed something");
     return true;
 }
 
 /* A run of a steps and then b leaves what a run of a + b leaves. */
-static bool cut_in_two(const struct test_case *c)
+static bool cut_in_two(const struct test_case *c, const struct call *call)
 {
-    uint64_t first = (c->placement >> 16 & 0xFFFF) % (c->count + 1), whole = library.answer, steps;
+    uint64_t first = (c->placement >> 16 & 0xFFFF) % (call->count + 1), whole = library.answer, steps;
 
-    run_side(&library, c, first);
+    call_side(&library, c, &(struct call){false, first, 0});
     steps = library.answer;
     if (code_of(steps) == MODEL_DONE)
-        steps += run_on(&library, c->count - first);
+        steps += run_on(&library, call->count - first);
     library.answer = whole;
     if (steps != whole || !agree())
-        return report_fault(c, "a run cut in two differs from the whole");
+        return report_fault(c, call, "a run cut in two differs from the whole");
     return true;
 }
 
-static bool check_case(const struct test_case *c)
+static bool as_expected(const struct test_case *c)
 {
-    if (!agree_with_count(c, c->count)) {
-        report_difference(c);
-        return false;
+    switch (c->expected) {
+    case EXPECT_ANY: return true;
+    case EXPECT_RUN: return !refused(model.answer);
+    default: return code_of(model.answer) == (unsigned)c->expected;
     }
-    if (c->expected != EXPECT_ANY &&
-        (c->expected == EXPECT_RUN ? refused(model.answer) : code_of(model.answer) != (unsigned)c->expected))
-        return report_fault(c, "the generator expected another code");
-    if (refused(library.answer)) {
-        if (memcmp(library.image.bytes, c->image, c->image_length) != 0 ||
-            memcmp(library.ram.bytes, c->ram, c->ram_length) != 0)
-            return report_fault(c, "a refused call changed something");
-        return true;
-    }
-    if (!accepted_again(c))
-        return false;
-    return c->count > 5000 || (c->placement >> 32 & 7) != 0 || cut_in_two(c);
 }
+
+static bool check_run(const struct test_case *c)
+{
+    const struct call run = {false, c->count, 0};
+
+    if (!check_call(c, &run))
+        return false;
+    if (!as_expected(c))
+        return report_fault(c, &run, "the generator expected another code");
+    return refused(library.answer) || c->count > 5000 || (c->placement >> 32 & 7) != 0 || cut_in_two(c, &run);
+}
+
+/* The number, and the pointer that the header makes of it. */
+static bool check_window(const struct test_case *c, const struct window *w)
+{
+    struct buffer ram = place(&library.ram_area, w->ram_length, c->placement >> 8);
+    uint64_t expected = model_window(ram.bytes, w->ram_length, w->address, w->length);
+    uint64_t got = fliskadee_window(ram.bytes, w->ram_length, w->address, w->length);
+    uint8_t *bytes = fliskadee_window_bytes(ram.bytes, w->ram_length, w->address, w->length);
+    uint8_t *expected_bytes = expected % 0x100000000 == 0 ? NULL : ram.bytes + expected / 0x100000000;
+
+    if (got != expected)
+        return report_window(w, "the number", got, expected);
+    if (bytes != expected_bytes)
+        return report_window(w, "the pointer", (uintptr_t)bytes, (uintptr_t)expected_bytes);
+    return true;
+}
+
+/* answers takes what the run and the search answered. */
+static bool check_case(const struct test_case *c, struct case_answers *answers)
+{
+    const struct call search = {true, c->search_count, c->mask};
+    unsigned i;
+
+    if (!check_run(c))
+        return false;
+    answers->run = model.answer;
+    if (!check_call(c, &search))
+        return false;
+    answers->search = model.answer;
+    for (i = 0; i < CASE_WINDOWS; i++)
+        if (!check_window(c, &c->windows[i]))
+            return false;
+    return true;
+}
+
+/* ---- The program -------------------------------------------------------------------- */
 
 static bool parse(const char *text, uint64_t *value)
 {
     char *end;
 
+    errno = 0;
     *value = strtoull(text, &end, 0);
-    return *text != '\0' && *text != '-' && *end == '\0';
+    return *text >= '0' && *text <= '9' && *end == '\0' && errno == 0;
 }
 
-static int usage(void)
+struct options {
+    uint64_t cases, first;
+    bool coverage, whole;
+};
+
+/* False, with the reason told, where the arguments are wrong. */
+static bool read_options(int argc, char **argv, struct options *o)
 {
-    fprintf(stderr, "usage: fuzz N SEED [--coverage] [--case K]\n");
-    return 2;
+    bool good = argc >= 3 && parse(argv[2], &seed);
+    int i;
+
+    if (argc >= 2 && (!parse(argv[1], &o->cases) || o->cases == 0)) {
+        fprintf(stderr, "fuzz: the number of cases must be a number above 0, not '%s'\n", argv[1]);
+        return false;
+    }
+    for (i = 3; i < argc; i++) {
+        if (strcmp(argv[i], "--coverage") == 0)
+            o->coverage = true;
+        else if (strcmp(argv[i], "--whole") == 0)
+            o->whole = true;
+        else if (strcmp(argv[i], "--case") == 0 && i + 1 < argc && parse(argv[i + 1], &o->first))
+            o->cases = 1, i++;
+        else
+            good = false;
+    }
+    if (!good)
+        fprintf(stderr, "usage: fuzz N SEED [--coverage] [--whole] [--case K]\n");
+    return good;
+}
+
+static void prepare(void)
+{
+    static const int signals[] = {SIGSEGV, SIGBUS, SIGILL, SIGFPE, SIGABRT};
+    size_t i;
+
+    library.image_area = make_area(CASE_IMAGE_CAPACITY);
+    library.ram_area = make_area(CASE_RAM_CAPACITY);
+    model.image_area = make_area(CASE_IMAGE_CAPACITY);
+    model.ram_area = make_area(CASE_RAM_CAPACITY);
+    for (i = 0; i < sizeof signals / sizeof *signals; i++)
+        signal(signals[i], on_signal);
 }
 
 int main(int argc, char **argv)
 {
     static uint8_t case_image[CASE_IMAGE_CAPACITY], case_ram[CASE_RAM_CAPACITY];
-    uint64_t cases, first = 0, steps = 0, ran = 0;
-    bool coverage = false, single = false;
-    struct test_case c;
-    int i;
+    struct test_case c = {.image = case_image, .ram = case_ram};
+    struct options o = {0};
+    struct case_answers answers;
+    uint64_t steps = 0, ran;
+    bool walking;
 
-    if (argc < 3 || !parse(argv[1], &cases) || !parse(argv[2], &seed))
-        return usage();
-    for (i = 3; i < argc; i++) {
-        if (strcmp(argv[i], "--coverage") == 0)
-            coverage = true;
-        else if (strcmp(argv[i], "--case") == 0 && i + 1 < argc && parse(argv[i + 1], &first))
-            single = true, i++;
-        else
-            return usage();
-    }
-    if (single)
-        cases = first + 1;
-
-    c.image = case_image;
-    c.ram = case_ram;
-    library.image_area = make_area(CASE_IMAGE_CAPACITY);
-    library.ram_area = make_area(CASE_RAM_CAPACITY);
-    model.image_area = make_area(CASE_IMAGE_CAPACITY);
-    model.ram_area = make_area(CASE_RAM_CAPACITY);
-    signal(SIGSEGV, on_signal);
-    signal(SIGBUS, on_signal);
-    signal(SIGILL, on_signal);
-    signal(SIGFPE, on_signal);
-    signal(SIGABRT, on_signal);
-
-    for (case_number = first; case_number < cases; case_number++) {
+    if (!read_options(argc, argv, &o))
+        return 2;
+    walking = o.coverage || o.whole;
+    prepare();
+    for (ran = 0; ran < o.cases; ran++) {
+        case_number = o.first + ran;
         generate_case(&c, seed, case_number);
-        if (!check_case(&c))
+        if (!check_case(&c, &answers))
             return 1;
-        ran++;
-        steps += model.answer % MODEL_CODE_UNIT;
-        if (coverage)
-            coverage_add(&c, model.answer);
+        steps += answers.run % MODEL_CODE_UNIT;
+        if (walking) {
+            coverage_add(&c, &answers);
+            walking = o.coverage || coverage_missing(); /* to save time, as it takes longer than the case */
+        }
     }
-    if (coverage)
+    if (o.coverage)
         coverage_print();
     printf("%llu cases of seed %llu agree, %llu steps\n", (unsigned long long)ran, (unsigned long long)seed,
            (unsigned long long)steps);
+    if (o.whole && coverage_missing()) {
+        printf("the coverage is not whole: %s\n", coverage_missing());
+        return 1;
+    }
     return 0;
 }

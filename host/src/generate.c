@@ -544,11 +544,12 @@ static uint32_t random_sr(struct random *r)
     return sr & SR_MASK;
 }
 
-/* The segments that reach RAM; user mode reaches only the first. */
+/* The segments that reach RAM. */
+static const uint32_t segments[] = {0, 0x80000000, 0xA0000000};
+
+/* User mode reaches only the first. */
 static uint32_t segment(struct random *r, uint32_t sr)
 {
-    static const uint32_t segments[] = {0, 0x80000000, 0xA0000000};
-
     if ((sr & 2) && chance(r, 85))
         return 0;
     return PICK(r, segments);
@@ -854,6 +855,77 @@ static void refused_case(struct random *r, struct test_case *c)
     }
 }
 
+/* ---- Searches and windows -------------------------------------------------------- */
+
+static uint32_t random_mask(struct random *r)
+{
+    switch (below(r, 8)) {
+    case 0: return 0;
+    case 1: return 0xFFFFFFFF;
+    case 2: return random_word(r) & 0xFFF; /* bits that FLAG never has */
+    case 3: return random_word(r);
+    case 4: return random_word(r) & random_word(r) & random_word(r);
+    default: return 1u << (31 - below(r, chance(r, 90) ? 20 : 32));
+    }
+}
+
+static uint64_t random_search_count(struct random *r, uint64_t count)
+{
+    return count <= 5000 || count > 1000000 || chance(r, 20) ? count : below(r, 5000);
+}
+
+/* Mostly the case's own; RAM is not read, so another costs nothing. */
+static size_t window_ram_length(struct random *r, size_t own)
+{
+    static const size_t good[] = {4, 8, 2097148, 2097152};
+
+    if (chance(r, 80))
+        return own;
+    return chance(r, 50) ? bad_ram_length(r) : chance(r, 50) ? PICK(r, good) : 4 * (1 + below(r, 524288));
+}
+
+/* Near an end of RAM or of a segment, inside RAM, past its end by a multiple of its length, or anywhere. */
+static uint32_t window_address(struct random *r, uint32_t ram_length)
+{
+    uint32_t base = chance(r, 85) ? PICK(r, segments) : below(r, 8) << 29;
+    uint32_t around = below(r, 9) - 4; /* below 0 for the segment before */
+
+    switch (below(r, 8)) {
+    case 0: return base + around;
+    case 1: case 2: return base + ram_length + around;
+    case 3: return base + ram_length * below(r, 16) + below(r, ram_length + 4);
+    case 4: return random_word(r);
+    default: return base + below(r, ram_length + 4);
+    }
+}
+
+/* Around what is left of RAM after the address, small, or with more than 32 bits. */
+static uint64_t window_length(struct random *r, const struct window *w)
+{
+    static const uint64_t lengths[] = {0, 0, 0, 1, 2, 3, 4, 2097152, 2097153, 0x1FFFFFFF, 0x20000000, 0x80000000,
+                                       0xFFFFFFFF, 0x100000000, 0x100000001, 0x7FFFFFFFFFFFFFFF, 0x8000000000000000,
+                                       0x8000000000000001, UINT64_MAX - 1, UINT64_MAX};
+    uint64_t left = (uint64_t)w->ram_length - (w->address & 0x1FFFFFFF);
+
+    switch (below(r, 6)) {
+    case 0: return PICK(r, lengths);
+    case 1: case 2: return left + below(r, 3) - 1;
+    case 3: return left + ((uint64_t)random_word(r) << 32); /* fits in its low 32 bits alone */
+    default: return below(r, (uint32_t)w->ram_length + 2);
+    }
+}
+
+static void random_windows(struct random *r, struct test_case *c)
+{
+    struct window *w;
+
+    for (w = c->windows; w < c->windows + CASE_WINDOWS; w++) {
+        w->ram_length = window_ram_length(r, c->ram_length);
+        w->address = window_address(r, (uint32_t)w->ram_length);
+        w->length = window_length(r, w);
+    }
+}
+
 void generate_case(struct test_case *c, uint64_t seed, uint64_t number)
 {
     struct random random, *r = &random;
@@ -873,4 +945,7 @@ void generate_case(struct test_case *c, uint64_t seed, uint64_t number)
     else
         large_case(r, c);
     c->placement = next(r);
+    c->mask = random_mask(r);
+    c->search_count = random_search_count(r, c->count);
+    random_windows(r, c);
 }

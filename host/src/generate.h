@@ -18,6 +18,15 @@ enum expectation {
     EXPECT_ANY = -1
 };
 
+/* What a RAM window is asked for; the RAM need not be the case's own. */
+struct window {
+    size_t ram_length; /* at most CASE_RAM_CAPACITY */
+    uint32_t address;
+    uint64_t length;
+};
+
+#define CASE_WINDOWS 8
+
 struct test_case {
     const char *kind;
     uint8_t *image; /* room for CASE_IMAGE_CAPACITY bytes */
@@ -25,8 +34,11 @@ struct test_case {
     uint8_t *ram; /* room for CASE_RAM_CAPACITY bytes */
     size_t ram_length;
     uint64_t count;
+    uint64_t search_count; /* refused just when count is, but mostly smaller where count is large, to save time */
+    uint32_t mask; /* of the search */
     enum expectation expected;
     uint64_t placement; /* random bits for where the buffers lie and where a run is cut in two */
+    struct window windows[CASE_WINDOWS];
 };
 
 void generate_case(struct test_case *c, uint64_t seed, uint64_t number);

@@ -1187,23 +1187,75 @@ static uint64_t answer(enum model_code code, uint64_t steps)
     return (uint64_t)code * MODEL_CODE_UNIT + steps;
 }
 
-uint64_t model_run(uint8_t *image, size_t image_length, uint8_t *ram, size_t ram_length, uint64_t count)
+static bool bad_ram_length(size_t ram_length)
+{
+    return ram_length % 4 != 0 || ram_length < 4 || ram_length > MODEL_RAM_MAXIMUM;
+}
+
+/* The first refusal that applies; MODEL_DONE where none does, with the machine loaded. */
+static enum model_code refusal(struct model *machine, const uint8_t *image, size_t image_length, size_t ram_length,
+                               uint64_t count)
+{
+    if (image_length != MODEL_IMAGE_BYTES)
+        return MODEL_IMAGE_LENGTH;
+    if (!model_load(machine, image))
+        return MODEL_IMAGE_FORM;
+    if (bad_ram_length(ram_length))
+        return MODEL_RAM_LENGTH;
+    if (count > MODEL_COUNT_MAXIMUM)
+        return MODEL_COUNT;
+    return MODEL_DONE;
+}
+
+/* The run, ended after the first step that brings up a bit of mask in FLAG. With mask 0 no step does. */
+static uint64_t run_until(uint8_t *image, size_t image_length, uint8_t *ram, size_t ram_length, uint64_t count,
+                          uint32_t mask)
 {
     struct model machine;
-    uint64_t steps;
+    enum model_code code = refusal(&machine, image, image_length, ram_length, count);
+    uint64_t steps = 0;
 
-    if (image_length != MODEL_IMAGE_BYTES)
-        return answer(MODEL_IMAGE_LENGTH, 0);
-    if (!model_load(&machine, image))
-        return answer(MODEL_IMAGE_FORM, 0);
-    if (ram_length % 4 != 0 || ram_length < 4 || ram_length > MODEL_RAM_MAXIMUM)
-        return answer(MODEL_RAM_LENGTH, 0);
-    if (count > MODEL_COUNT_MAXIMUM)
-        return answer(MODEL_COUNT, 0);
+    if (code != MODEL_DONE)
+        return answer(code, 0);
+    while (code == MODEL_DONE && steps < count) {
+        uint32_t before = machine.cop2[FLAG] & mask;
 
-    for (steps = 0; steps < count; steps++)
-        if (model_step(&machine, ram, ram_length) == MODEL_STOP)
+        if (model_step(&machine, ram, ram_length) == MODEL_STOP) {
+            code = MODEL_UNLISTED;
             break;
+        }
+        steps++;
+        if (before == 0 && (machine.cop2[FLAG] & mask) != 0)
+            code = MODEL_FLAG_UP;
+    }
     model_store(&machine, image);
-    return answer(steps < count ? MODEL_UNLISTED : MODEL_DONE, steps);
+    return answer(code, steps);
+}
+
+uint64_t model_run(uint8_t *image, size_t image_length, uint8_t *ram, size_t ram_length, uint64_t count)
+{
+    return run_until(image, image_length, ram, ram_length, count, 0);
+}
+
+uint64_t model_find_flag(uint8_t *image, size_t image_length, uint8_t *ram, size_t ram_length, uint64_t count,
+                         uint32_t mask)
+{
+    return run_until(image, image_length, ram, ram_length, count, mask);
+}
+
+/* ---- The RAM window (01, The run and its numbers) ------------------------- */
+
+/* RAM is shorter than a segment, so a range that starts in RAM is in RAM only up to RAM's end. */
+uint64_t model_window(const uint8_t *ram, size_t ram_length, uint32_t address, uint64_t length)
+{
+    uint32_t place;
+
+    (void)ram; /* named by the interface, and not read */
+    if (bad_ram_length(ram_length))
+        return 0;
+    if (!translate(address, ram_length, &place))
+        return 0;
+    if (length > ram_length - place)
+        return 0;
+    return (uint64_t)place << 32 | length;
 }

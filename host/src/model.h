@@ -2,8 +2,9 @@
  * An independent model of the machine of paper 01, in plain C.
  *
  * It is written from the papers alone and shares no code with the library, so
- * that the two can be compared. model_run has the interface of fliskadee_run;
- * the calls below it run the same machine one step at a time.
+ * that the two can be compared. model_run, model_find_flag and model_window
+ * have the interfaces of the library's three calls; the calls below them run
+ * the same machine one step at a time.
  */
 #ifndef MODEL_H
 #define MODEL_H
@@ -25,11 +26,22 @@ enum model_code {
     MODEL_IMAGE_FORM = 2,
     MODEL_RAM_LENGTH = 3,
     MODEL_COUNT = 4,
-    MODEL_UNLISTED = 5
+    MODEL_UNLISTED = 5,
+    MODEL_FLAG_UP = 16 /* of model_find_flag alone */
 };
 
 /* Answers code * 1048576 + steps completed. */
 uint64_t model_run(uint8_t *image, size_t image_length, uint8_t *ram, size_t ram_length, uint64_t count);
+
+/* The run, ended after the first step that leaves a bit of mask set in FLAG where none was set before it. */
+uint64_t model_find_flag(uint8_t *image, size_t image_length, uint8_t *ram, size_t ram_length, uint64_t count,
+                         uint32_t mask);
+
+/*
+ * The RAM window: the part of RAM that an address and a length name, as place * 2^32 + length. The length is 0 when
+ * the part is empty; the place is then 0, but for length 0 at an address in RAM it is that address's.
+ */
+uint64_t model_window(const uint8_t *ram, size_t ram_length, uint32_t address, uint64_t length);
 
 /* 01, The machine image: words 0..107 as fields. */
 struct model {

@@ -68,17 +68,45 @@ static void fresh(void)
     word[COP2 + 31] = 32;
 }
 
-static uint64_t run_length(size_t image_length, uint64_t count)
+static void put_image(uint8_t *image)
 {
-    uint8_t image[512] = {0};
     unsigned i;
 
     for (i = 0; i < MODEL_IMAGE_WORDS; i++)
         put_word(image + 4 * i, word[i]);
-    answer = model_run(image, image_length, ram, ram_length, count);
+}
+
+static void get_image(const uint8_t *image)
+{
+    unsigned i;
+
     for (i = 0; i < MODEL_IMAGE_WORDS; i++)
         word[i] = get_word(image + 4 * i);
+}
+
+static uint64_t run_length(size_t image_length, uint64_t count)
+{
+    uint8_t image[512] = {0};
+
+    put_image(image);
+    answer = model_run(image, image_length, ram, ram_length, count);
+    get_image(image);
     return answer;
+}
+
+static uint64_t find_length(size_t image_length, uint64_t count, uint32_t mask)
+{
+    uint8_t image[512] = {0};
+
+    put_image(image);
+    answer = model_find_flag(image, image_length, ram, ram_length, count, mask);
+    get_image(image);
+    return answer;
+}
+
+static uint64_t find(uint64_t count, uint32_t mask)
+{
+    return find_length(MODEL_IMAGE_BYTES, count, mask);
 }
 
 static uint64_t run(uint64_t count)
@@ -98,15 +126,12 @@ static void set(unsigned number, uint32_t value)
 {
     struct model machine;
     uint8_t image[MODEL_IMAGE_BYTES];
-    unsigned i;
 
-    for (i = 0; i < MODEL_IMAGE_WORDS; i++)
-        put_word(image + 4 * i, word[i]);
+    put_image(image);
     equal("image before set", model_load(&machine, image), true);
     model_cop2_write(&machine, number, value);
     model_store(&machine, image);
-    for (i = 0; i < MODEL_IMAGE_WORDS; i++)
-        word[i] = get_word(image + 4 * i);
+    get_image(image);
 }
 
 static uint32_t cop2(unsigned number)
@@ -376,6 +401,151 @@ static void unlisted_commands(void)
     set(9, 0x7FFF);
     step(0x4BE00028);
     equal("fake number", cop2(25), 0x3FFF0001);
+}
+
+/* ---- The search for a bit of FLAG ---------------------------------------------- */
+
+#define FLAG_UP (MODEL_FLAG_UP * (uint64_t)MODEL_CODE_UNIT)
+
+/* Five steps that leave these words in FLAG, then an unlisted command. */
+static void flag_program(void)
+{
+    static const uint32_t flags[5] = {0, 0x80100000 | 1u << 24, 0x80000000 | 1u << 23, 0, 1u << 22};
+    unsigned i;
+
+    fresh();
+    for (i = 0; i < 5; i++) {
+        word[8 + i] = flags[i] & 0x7FFFF000;
+        put_word(ram + CODE_BASE + 4 * i, encode_move(2, 6, 8 + i, 31));
+    }
+    put_word(ram + CODE_BASE + 20, 0x4A000000);
+}
+
+/* The search from the program's start, and that it left what a run of so many steps leaves. */
+static void searches(const char *what, uint64_t count, uint32_t mask, uint64_t expected)
+{
+    uint32_t found[MODEL_IMAGE_WORDS];
+
+    flag_program();
+    equal(what, find(count, mask), expected);
+    memcpy(found, word, sizeof word);
+    flag_program();
+    run(expected % MODEL_CODE_UNIT);
+    equal(what, memcmp(found, word, sizeof word), 0);
+}
+
+static void search(void)
+{
+    searches("mask 0", 5, 0, 5);
+    searches("mask 0, unlisted", 6, 0, 5 * MODEL_CODE_UNIT + 5);
+    searches("count 0", 0, 0xFFFFFFFF, 0);
+    searches("before the bit", 1, 1u << 24, 1);
+    searches("the bit in the last step", 2, 1u << 24, FLAG_UP + 2);
+    searches("the bit with steps left", 1000000, 1u << 24, FLAG_UP + 2);
+    searches("a bit that is no error", 6, 1u << 20, FLAG_UP + 2);
+    searches("bit 31", 6, 1u << 31, FLAG_UP + 2);
+    searches("a later bit", 6, 1u << 23, FLAG_UP + 3);
+    searches("one of several", 6, 1u << 23 | 1u << 18, FLAG_UP + 3);
+    searches("the last bit before an unlisted command", 6, 1u << 22, FLAG_UP + 5);
+    searches("no such bit", 6, 1u << 18, 5 * MODEL_CODE_UNIT + 5);
+    searches("bits 11..0", 6, 0xFFF, 5 * MODEL_CODE_UNIT + 5);
+    searches("any bit", 6, 0xFFFFFFFF, FLAG_UP + 2);
+
+    flag_program(); /* another bit of the mask stands, so the new one does not count until all were clear */
+    set(63, 1u << 24);
+    word[PC] += 4;
+    word[NEXT] += 4;
+    equal("a bit that stands", find(5, 1u << 24 | 1u << 23), 5 * MODEL_CODE_UNIT + 4);
+    flag_program();
+    set(63, 1u << 24);
+    word[PC] += 4;
+    word[NEXT] += 4;
+    equal("up after all were clear", find(5, 7u << 22), FLAG_UP + 4);
+    fresh(); /* set before, and again by a command: it never came up */
+    set(9, 0x7FFF);
+    set(63, 1u << 24);
+    put_word(ram + CODE_BASE, encode_command(0x28, 0, 0));
+    equal("set again", find(1, 1u << 24), 1);
+    fresh();
+    set(9, 0x7FFF);
+    put_word(ram + CODE_BASE, encode_command(0x28, 0, 0));
+    equal("set by a command", find(9, 1u << 24), FLAG_UP + 1);
+    equal("the step was carried out", cop2(25), 0x3FFF0001);
+
+    fresh(); /* the refusals, in the order of the run's */
+    ram_length = 6;
+    equal("search, length before form", find_length(431, 2000000, 1), 1 * MODEL_CODE_UNIT);
+    word[0] = 1;
+    equal("search, form before RAM", find(2000000, 1), 2 * MODEL_CODE_UNIT);
+    word[0] = 0;
+    equal("search, RAM before count", find(2000000, 1), 3 * MODEL_CODE_UNIT);
+    ram_length = 4;
+    equal("search, count", find(1000001, 1), 4 * MODEL_CODE_UNIT);
+    equal("search, count past 32 bits", find(0x100000005, 1), 4 * MODEL_CODE_UNIT);
+}
+
+/* ---- The RAM window ------------------------------------------------------------- */
+
+static uint64_t window_at(size_t length_of_ram, uint32_t address, uint64_t length)
+{
+    return model_window(ram, length_of_ram, address, length);
+}
+
+/* Where the byte lies in RAM, or UINT64_MAX. */
+static uint64_t byte_place(uint64_t length_of_ram, uint32_t address)
+{
+    static const uint32_t bases[] = {0, 0x80000000, 0xA0000000};
+    unsigned i;
+
+    for (i = 0; i < 3; i++)
+        if (address >= bases[i] && address - bases[i] < length_of_ram)
+            return address - bases[i];
+    return UINT64_MAX;
+}
+
+/* The definition, byte by byte modulo 2^32. */
+static uint64_t window_by_bytes(uint64_t length_of_ram, uint32_t address, uint64_t length)
+{
+    uint64_t first = byte_place(length_of_ram, address), words = length_of_ram / 4, i;
+
+    if (words < 1 || words > 524288 || 4 * words != length_of_ram || first == UINT64_MAX)
+        return 0;
+    for (i = 0; i < length; i++)
+        if (byte_place(length_of_ram, (uint32_t)(address + i)) != first + i)
+            return 0;
+    return first << 32 | length;
+}
+
+static void windows(void)
+{
+    static const size_t rams[] = {0, 1, 2, 3, 4, 5, 6, 7, 8, 12, 13, 20, 2097151, 2097152, 2097153, 2097156};
+    static const uint64_t huge[] = {0x20000000, 0xFFFFFFFF, 0x100000000, 0x100000001, 0x8000000000000001, UINT64_MAX};
+    unsigned i, segment, k, different = 0;
+    uint32_t at, length;
+
+    equal("window at the start", window_at(64, 0, 64), 64);
+    equal("window past the end", window_at(64, 0, 65), 0);
+    equal("window of the last byte", window_at(64, 0xA000003F, 1), (uint64_t)63 << 32 | 1);
+    equal("window of no byte", window_at(64, 0x80000010, 0), (uint64_t)16 << 32);
+    equal("window of no byte at the end", window_at(64, 64, 0), 0);
+    equal("window in kseg2", window_at(64, 0xC0000000, 1), 0);
+    equal("window in RAM of 6", window_at(6, 0, 1), 0);
+    equal("window of all RAM", window_at(2097152, 0x80000000, 2097152), 2097152);
+    equal("window of all RAM and one byte", window_at(2097152, 0x80000000, 2097153), 0);
+    equal("window in RAM of 2097156", window_at(2097156, 0, 1), 0);
+
+    /* Around both ends of RAM in every segment: short lengths, and huge ones. */
+    for (i = 0; i < sizeof rams / sizeof *rams; i++)
+        for (segment = 0; segment < 8; segment++)
+            for (at = 0; at < 25; at++) {
+                uint32_t address = (segment << 29) + (at < 5 ? at - 2 : (uint32_t)rams[i] + at - 15);
+
+                for (length = 0; length < 24; length++)
+                    different += window_at(rams[i], address, length) != window_by_bytes(rams[i], address, length);
+                for (k = 0; k < sizeof huge / sizeof *huge; k++)
+                    different += window_at(rams[i], address, huge[k]) != window_by_bytes(rams[i], address, huge[k]);
+            }
+    equal("windows byte by byte", different, 0);
 }
 
 /* ---- Load delay -------------------------------------------------------------- */
@@ -1780,6 +1950,8 @@ int main(void)
     figures();
     refusals();
     unlisted_commands();
+    search();
+    windows();
     load_delay();
     arithmetic();
     jumps();
