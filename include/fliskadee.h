@@ -135,7 +135,8 @@ uint64_t fliskadee_find_flag(uint8_t *image, size_t image_length, uint8_t *ram, 
 /* The RAM window: which part of the lent RAM a virtual address and a length name. The answer is the place of the part's first
  * byte in ram times 2^32, plus the part's length. The length is 0 exactly when the length asked for is 0, the RAM's length is
  * one that fliskadee_run refuses, or some byte of the range is not in RAM (through the segments 000, 100 or 101); else it is the
- * length asked for. RAM is not read. */
+ * length asked for. The place of an empty part is 0, but for a length of 0 at an address in RAM, where it is that place. RAM is not
+ * read. */
 uint64_t fliskadee_window(const uint8_t *ram, size_t ram_length, uint32_t address, uint64_t length);
 
 /* The same as a pointer into ram itself, with no copy: NULL where the part is empty. */
