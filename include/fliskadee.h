@@ -1,8 +1,8 @@
 /* Fliskadee: a software R3000A with its geometry unit (GTE), proved to do what its papers say.
  *
- * Link target/staticlib/libfliskadee.a, which "rt staticlib fliskadee" makes: one ELF object for x86-64. The library keeps no state
- * of its own, allocates nothing, and calls memcpy and nothing else: everything is in the buffers that the caller lends. Calls on
- * different buffers may run at the same time.
+ * Link target/staticlib/libfliskadee.a, which host/library makes ("rt staticlib fliskadee"): one ELF object for x86-64. The library
+ * keeps no state of its own, allocates nothing, and calls memcpy and nothing else: everything is in the buffers that the caller
+ * lends. Calls on different buffers may run at the same time.
  *
  * What the caller must see to: a buffer has the length that is passed, may be read and (unless it is const) written, and no
  * two buffers of one call overlap. Nothing else is required: every content, every length and every count is answered. */

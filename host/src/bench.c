@@ -35,14 +35,6 @@ struct workload {
 
 /* ---- Machines ---------------------------------------------------------------- */
 
-static void put_word(uint8_t *p, uint32_t w)
-{
-    p[0] = (uint8_t)w;
-    p[1] = (uint8_t)(w >> 8);
-    p[2] = (uint8_t)(w >> 16);
-    p[3] = (uint8_t)(w >> 24);
-}
-
 enum { ZERO = 0, T0 = 8, T1, T2, T3, T4, T5, T6, T7, S0, S1, S2 };
 
 /* Kernel mode, COP2 usable, registers of a camera that looks at three vertices in front of it. */

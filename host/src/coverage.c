@@ -1,6 +1,7 @@
 #include "coverage.h"
 
 #include "disassemble.h"
+#include "encode.h"
 #include "model.h"
 
 #include <stdarg.h>
@@ -166,8 +167,7 @@ static void count_step(const struct model *before, const struct model *after, en
         count_load(before, after, outcome, 0);
         return;
     }
-    word = (uint32_t)ram[physical] | (uint32_t)ram[physical + 1] << 8 | (uint32_t)ram[physical + 2] << 16 |
-           (uint32_t)ram[physical + 3] << 24;
+    word = get_word(ram + physical);
     count_load(before, after, outcome, word);
     index = instruction_index(word);
     if (index < 0) {

@@ -1,8 +1,25 @@
-/* Encodings of 000, for tests that write programs. */
+/* Encodings of 000, for tests that write programs, and words in bytes. */
 #ifndef ENCODE_H
 #define ENCODE_H
 
 #include <stdint.h>
+
+#include "fliskadee.h"
+
+static inline uint32_t get_word(const uint8_t *p)
+{
+    return fliskadee_get_word(p, 0);
+}
+
+static inline void put_word(uint8_t *p, uint32_t w)
+{
+    fliskadee_set_word(p, 0, w);
+}
+
+/* The 22 GTE commands, by their low six bits. */
+static const uint8_t listed_commands[] __attribute__((unused)) = {0x01, 0x06, 0x0C, 0x10, 0x11, 0x12, 0x13, 0x14,
+                                                                  0x16, 0x1B, 0x1C, 0x1E, 0x20, 0x28, 0x29, 0x2A,
+                                                                  0x2D, 0x2E, 0x30, 0x3D, 0x3E, 0x3F};
 
 static inline uint32_t encode_r(uint32_t funct, uint32_t rd, uint32_t rs, uint32_t rt, uint32_t shift)
 {

@@ -177,9 +177,7 @@ static uint64_t seed, case_number;
 
 static uint32_t image_word(const struct buffer *image, unsigned number)
 {
-    const uint8_t *p = image->bytes + 4 * number;
-
-    return (uint32_t)p[0] | (uint32_t)p[1] << 8 | (uint32_t)p[2] << 16 | (uint32_t)p[3] << 24;
+    return fliskadee_get_word(image->bytes, number);
 }
 
 static const char *image_word_name(unsigned number)
@@ -220,8 +218,7 @@ static void print_instruction(const struct side *s)
         printf("no instruction at PC %08x\n", (unsigned)pc);
         return;
     }
-    word = (uint32_t)s->ram.bytes[physical] | (uint32_t)s->ram.bytes[physical + 1] << 8 |
-           (uint32_t)s->ram.bytes[physical + 2] << 16 | (uint32_t)s->ram.bytes[physical + 3] << 24;
+    word = fliskadee_get_word(s->ram.bytes + physical, 0);
     disassemble(word, pc, text, sizeof text);
     printf("instruction at PC %08x: %08x %s\n", (unsigned)pc, (unsigned)word, text);
 }

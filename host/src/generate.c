@@ -321,9 +321,6 @@ struct layout {
     bool wild; /* any register anywhere: for short runs */
 };
 
-static const uint8_t listed_commands[] = {0x01, 0x06, 0x0C, 0x10, 0x11, 0x12, 0x13, 0x14, 0x16, 0x1B, 0x1C,
-                                          0x1E, 0x20, 0x28, 0x29, 0x2A, 0x2D, 0x2E, 0x30, 0x3D, 0x3E, 0x3F};
-
 static uint32_t source(struct random *r)
 {
     return below(r, 32);
@@ -506,19 +503,6 @@ enum { PC = 34, NEXT, WAIT, WAITING, SLOT, SR, CAUSE, EPC, BADV, COP2 = 44 };
 
 #define SR_MASK 0xF24FFF3Fu
 #define CAUSE_MASK 0xB000037Cu
-
-static void put_word(uint8_t *p, uint32_t w)
-{
-    p[0] = (uint8_t)w;
-    p[1] = (uint8_t)(w >> 8);
-    p[2] = (uint8_t)(w >> 16);
-    p[3] = (uint8_t)(w >> 24);
-}
-
-static uint32_t get_word(const uint8_t *p)
-{
-    return (uint32_t)p[0] | (uint32_t)p[1] << 8 | (uint32_t)p[2] << 16 | (uint32_t)p[3] << 24;
-}
 
 static void put_image(struct test_case *c, const uint32_t *word)
 {

@@ -877,6 +877,12 @@ static int do_command(const struct command *command, int count, char **arguments
             return STATUS_FINE;
         }
     }
+    /* After help, which is given also where no library is linked. */
+    if (fliskadee_interface() != FLISKADEE_INTERFACE) {
+        complain("this tool was built for interface %d, but the library has interface %u; build both anew.",
+                 FLISKADEE_INTERFACE, (unsigned)fliskadee_interface());
+        return STATUS_TROUBLE;
+    }
     for (int i = 0; command->arguments >= 0 && i < count; i++) {
         if (strncmp(arguments[i], "--", 2) == 0) {
             complain("%s has no option %s.", command->name, arguments[i]);
@@ -922,11 +928,6 @@ static int dispatch(int count, char **arguments)
     if (help) {
         print_command_help(command);
         return STATUS_FINE;
-    }
-    if (fliskadee_interface() != FLISKADEE_INTERFACE) {
-        complain("this tool was built for interface %d, but the library has interface %u; build both anew.",
-                 FLISKADEE_INTERFACE, (unsigned)fliskadee_interface());
-        return STATUS_TROUBLE;
     }
     return do_command(command, count - 2, arguments + 2);
 }

@@ -43,19 +43,6 @@ static uint8_t ram[2097152 + 8];
 static size_t ram_length;
 static uint64_t answer;
 
-static uint32_t get_word(const uint8_t *p)
-{
-    return (uint32_t)p[0] | (uint32_t)p[1] << 8 | (uint32_t)p[2] << 16 | (uint32_t)p[3] << 24;
-}
-
-static void put_word(uint8_t *p, uint32_t w)
-{
-    p[0] = (uint8_t)w;
-    p[1] = (uint8_t)(w >> 8);
-    p[2] = (uint8_t)(w >> 16);
-    p[3] = (uint8_t)(w >> 24);
-}
-
 /* Kernel mode, COP2 usable, PC at 100h, everything else zero. LZCR of LZCS 0 is 32. */
 static void fresh(void)
 {
@@ -353,15 +340,13 @@ static void refusals(void)
 static void unlisted_commands(void)
 {
     uint32_t before[MODEL_IMAGE_WORDS];
-    static const uint8_t listed[] = {0x01, 0x06, 0x0C, 0x10, 0x11, 0x12, 0x13, 0x14, 0x16, 0x1B, 0x1C,
-                                     0x1E, 0x20, 0x28, 0x29, 0x2A, 0x2D, 0x2E, 0x30, 0x3D, 0x3E, 0x3F};
     unsigned number, i;
 
     for (number = 0; number < 64; number++) {
         bool is_listed = false;
 
-        for (i = 0; i < sizeof listed; i++)
-            is_listed |= listed[i] == number;
+        for (i = 0; i < sizeof listed_commands; i++)
+            is_listed |= listed_commands[i] == number;
         fresh();
         set(63, 0x1000);
         put_word(ram + CODE_BASE, encode_command(number, 0, 0));

@@ -1,0 +1,35 @@
+/* Stands in for the library where only the tool's help is wanted (host/fliskadee), so that help does not wait for the proofs. Help
+   calls none of these; were one called, it would say so and end the program. */
+#include <stdio.h>
+#include <stdlib.h>
+
+#include "fliskadee.h"
+
+static _Noreturn void end(void)
+{
+    fprintf(stderr, "fliskadee: this program was linked without the library and gives help only.\n");
+    exit(2);
+}
+
+uint64_t fliskadee_run(uint8_t *image, size_t image_length, uint8_t *ram, size_t ram_length, uint64_t count)
+{
+    (void)image, (void)image_length, (void)ram, (void)ram_length, (void)count;
+    end();
+}
+
+uint64_t fliskadee_find_flag(uint8_t *image, size_t image_length, uint8_t *ram, size_t ram_length, uint64_t count, uint32_t mask)
+{
+    (void)image, (void)image_length, (void)ram, (void)ram_length, (void)count, (void)mask;
+    end();
+}
+
+uint64_t fliskadee_window(const uint8_t *ram, size_t ram_length, uint32_t address, uint64_t length)
+{
+    (void)ram, (void)ram_length, (void)address, (void)length;
+    end();
+}
+
+uint32_t fliskadee_interface(void)
+{
+    end();
+}
