@@ -67,6 +67,16 @@ enum { NOT_EMPTY, LENGTH_0_IN_RAM, LENGTH_0_ELSEWHERE, BAD_RAM_LENGTH, STARTS_OU
 static const char *const window_names[WINDOW_KINDS] = {"not empty", "length 0 in RAM", "length 0 elsewhere",
                                                        "bad RAM length", "starts outside RAM", "ends outside RAM"};
 
+/* What RTPS and RTPT divided: SZ3 by its leading zeros, the ends of the table of first guesses, and the limit with and without bit 17. */
+enum { FIRST_ENTRY = 16, LAST_ENTRY, LIMIT_UNFLAGGED, LIMIT_FLAGGED, QUOTIENT_KINDS };
+
+static const char *const quotient_names[QUOTIENT_KINDS] = {
+    "0 leading zeros", "1 leading zero", "2 leading zeros", "3 leading zeros", "4 leading zeros", "5 leading zeros",
+    "6 leading zeros", "7 leading zeros", "8 leading zeros", "9 leading zeros", "10 leading zeros", "11 leading zeros",
+    "12 leading zeros", "13 leading zeros", "14 leading zeros", "15 leading zeros", "first entry", "last entry",
+    "1FFFFh without bit 17", "1FFFFh with bit 17",
+};
+
 static const char *const exception_names[13] = {[4] = "AdEL", [5] = "AdES", [6] = "IBE", [7] = "DBE", [8] = "Sys",
                                                 [9] = "Bp", [10] = "RI", [11] = "CpU", [12] = "Ovf"};
 
@@ -79,6 +89,7 @@ static uint64_t exceptions_user, exceptions_bev, steps_user;
 static uint64_t run_codes[MODEL_UNLISTED + 1], search_codes[MODEL_FLAG_UP + 1];
 static uint64_t load_events[LOAD_EVENTS];
 static uint64_t windows[WINDOW_KINDS];
+static uint64_t quotients[QUOTIENT_KINDS];
 
 static int find_index(uint32_t word)
 {
@@ -126,6 +137,23 @@ static void count_command(uint32_t word, uint32_t flag)
         }
     if ((word & 0x3F) == 0x12)
         mvmva_forms[(word >> 13 & 0x7F) | lm << 7]++;
+}
+
+static void count_quotient(uint32_t h, uint32_t sz3)
+{
+    bool overflow, limit = model_quotient(h, sz3, &overflow) == 0x1FFFF;
+    uint32_t divisor = sz3;
+    unsigned zeros = 0;
+
+    quotients[LIMIT_UNFLAGGED] += limit && !overflow;
+    quotients[LIMIT_FLAGGED] += overflow;
+    if (overflow)
+        return;
+    for (; divisor < 0x8000; divisor *= 2)
+        zeros++;
+    quotients[zeros]++;
+    quotients[FIRST_ENTRY] += divisor < 0x8040;
+    quotients[LAST_ENTRY] += divisor >= 0xFFC0;
 }
 
 /* What became of a waiting load in this step. */
@@ -180,8 +208,13 @@ static void count_step(const struct model *before, const struct model *after, en
     }
     done[index]++;
     taken[index] += after->delay_slot && after->next_pc != before->next_pc + 4;
-    if (strcmp(names[index], "cop2") == 0)
+    if (strcmp(names[index], "cop2") == 0) {
+        unsigned i, vertices = (word & 0x3F) == 0x01 ? 1 : (word & 0x3F) == 0x30 ? 3 : 0;
+
         count_command(word, after->cop2[63]);
+        for (i = 0; i < vertices; i++)
+            count_quotient(before->cop2[58] & 0xFFFF, after->cop2[19 - i]);
+    }
 }
 
 static void count_window(const struct window *w)
@@ -266,7 +299,8 @@ static void tally(struct tally *t, bool reached, const char *format, ...)
 
 enum {
     ALL_INSTRUCTIONS, ALL_COMMANDS, ALL_FORMS, ALL_MVMVA, BITS_SET, BITS_CLEAR, BITS_IMPOSSIBLE, OUTSIDE_SLOTS,
-    IN_SLOTS, ALL_EVENTS, RUN_CODES, SEARCH_CODES, ALL_WINDOWS, TALLIES
+    IN_SLOTS, ALL_EVENTS, RUN_CODES, SEARCH_CODES, ALL_WINDOWS, ALL_QUOTIENTS,
+    TALLIES
 };
 
 static void tally_instructions(struct tally *t)
@@ -331,6 +365,7 @@ static void tally_all(struct tally t[TALLIES])
         [RUN_CODES] = "codes of the run",
         [SEARCH_CODES] = "codes of the search",
         [ALL_WINDOWS] = "kinds of windows",
+        [ALL_QUOTIENTS] = "kinds of quotients",
     };
     unsigned i;
 
@@ -352,6 +387,8 @@ static void tally_all(struct tally t[TALLIES])
     tally(&t[SEARCH_CODES], search_codes[MODEL_FLAG_UP] != 0, "%u", MODEL_FLAG_UP);
     for (i = 0; i < WINDOW_KINDS; i++)
         tally(&t[ALL_WINDOWS], windows[i] != 0, "%s", window_names[i]);
+    for (i = 0; i < QUOTIENT_KINDS; i++)
+        tally(&t[ALL_QUOTIENTS], quotients[i] != 0, "%s", quotient_names[i]);
 }
 
 const char *coverage_missing(void)
@@ -443,6 +480,7 @@ void coverage_print(void)
     print_codes("run", run_codes, MODEL_UNLISTED);
     print_codes("search", search_codes, MODEL_FLAG_UP);
     print_names("windows", window_names, windows, WINDOW_KINDS);
+    print_names("quotients", quotient_names, quotients, QUOTIENT_KINDS);
     printf("reached:\n");
     tally_all(t);
     for (i = 0; i < TALLIES; i++)

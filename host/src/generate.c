@@ -6,6 +6,7 @@
 #include "generate.h"
 
 #include "encode.h"
+#include "model.h"
 
 #include <stdbool.h>
 #include <string.h>
@@ -150,6 +151,9 @@ static void make_cop2_well_formed(uint32_t *r)
             r[63] |= 0x80000000;
 }
 
+/* H and a depth below the overflow whose quotient would be 20000h, and is cut: three of the forty such pairs. */
+static const uint16_t cut_pairs[][2] = {{0xFE3F, 0x7F20}, {0xF015, 0x780B}, {0xE383, 0x71C2}};
+
 /* A depth around a limit: 0, 7FFFh, FFFFh, -8000h, or anywhere. */
 static int32_t random_depth(struct random *r)
 {
@@ -173,9 +177,11 @@ static void projection_recipe(struct random *r, uint32_t *c)
     static const int64_t screen[] = {0x3FFFFFF, 0x4000000, -0x4000000, -0x4000001, 0x7FFFFFFF, 0x80000000,
                                      -0x80000000LL, -0x80000001LL, 0, -1};
     static const int64_t cue[] = {0, -1, 0xFFF, 0x1000FFF, 0x1001000, 0x7FFFFFFF, 0x80000000, -0x80000000LL, -0x80000001LL};
-    int32_t depth = random_depth(r), reach, z;
+    const uint16_t *cut = chance(r, 5) ? PICK(r, cut_pairs) : NULL;
+    int32_t depth = cut ? cut[1] : random_depth(r), reach, z;
     int64_t quotient, x, y;
     uint32_t h, i;
+    bool overflow;
 
     for (i = 32; i < 37; i++)
         c[i] = 0;
@@ -189,13 +195,13 @@ static void projection_recipe(struct random *r, uint32_t *c)
     c[39] = (uint32_t)reach;
     for (i = 1; i < 6; i += 2) {
         z = i == 1 || chance(r, 60) ? depth + (int32_t)below(r, 5) - 2 : random_depth(r);
-        c[i] = (uint32_t)(z - reach);
+        c[i] = (uint32_t)((cut && i == 1 ? depth : z) - reach);
     }
     h = chance(r, 60) ? 2 * (uint32_t)depth + below(r, 7) - 3 : chance(r, 50) ? (uint32_t)depth : edge_half(r);
-    c[58] = h & 0xFFFF;
+    c[58] = cut ? cut[0] : h & 0xFFFF;
     z = (int16_t)c[1] + reach;
     z = z < 0 ? 0 : z > 0xFFFF ? 0xFFFF : z;
-    quotient = c[58] >= 2 * (uint32_t)z ? 0x1FFFF : (int64_t)((uint64_t)c[58] * 0x20000 / (uint32_t)z + 1) / 2;
+    quotient = model_quotient(c[58], (uint32_t)z, &overflow);
     for (i = 0; i < 6; i += 2) {
         x = chance(r, 50) ? (int64_t)below(r, 9) - 4 : (int16_t)edge_half(r);
         y = chance(r, 50) ? (int64_t)below(r, 9) - 4 : (int16_t)edge_half(r);

@@ -83,7 +83,7 @@ void model_cop2_write(struct model *machine, unsigned number, uint32_t word);
 /* Carries out a GTE command; false, with nothing changed, when its low six bits are unlisted. */
 bool model_command(struct model *machine, uint32_t word);
 
-/* 01, GTE arithmetic: the perspective quotient; *overflow says whether bit 17 is set. */
+/* 02, Ticket 2: the perspective quotient, for H and SZ3 of 16 bits; *overflow says whether bit 17 is set. */
 uint32_t model_quotient(uint32_t h, uint32_t sz3, bool *overflow);
 
 #endif

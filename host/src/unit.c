@@ -147,6 +147,55 @@ static void projection(int32_t x, int32_t y, int32_t z)
     step(encode_command(0x01, 1, 0));
 }
 
+/* What the hardware's quotient is; *overflow is to stay false. */
+static void quotient(uint32_t h, uint32_t sz3, uint32_t expected)
+{
+    char name[40];
+    bool overflow;
+
+    snprintf(name, sizeof name, "quotient %04X/%04X", (unsigned)h, (unsigned)sz3);
+    equal(name, model_quotient(h, sz3, &overflow), expected);
+    equal(name, overflow, false);
+}
+
+/* 02, Ticket 2, and 001's section on division: what they say of single quotients, and the distance from the printed formula. */
+static void division(void)
+{
+    uint32_t sz3, h, worst_below = 0, worst_above = 0, limited = 0, flagged = 0;
+    bool overflow;
+
+    quotient(200, 1000, 13107);
+    quotient(200, 101, 129773);
+    quotient(0, 1, 0);
+    quotient(1, 1, 0x10000);
+    quotient(0xFE3F, 0x7F20, 0x1FFFF);
+    quotient(0xF015, 0x780B, 0x1FFFF);
+    quotient(0xFFFF, 0xFFFF, 65535);
+    quotient(0xFFFF, 0x8000, 131070);
+    quotient(1991, 1023, 127546);
+    quotient(413, 269, 100620);
+    equal("quotient 0/0", model_quotient(0, 0, &overflow), 0x1FFFF);
+    equal("quotient 0/0 overflows", overflow, true);
+
+    /* every SZ3, with H at both ends of what it allows and at places between */
+    for (sz3 = 1; sz3 < 0x10000; sz3++)
+        for (h = 0; h < 2 * sz3 && h < 0x10000; h += 1 + (h + 2 < 2 * sz3 ? sz3 / 8 : 0)) {
+            uint32_t q = model_quotient(h, sz3, &overflow);
+            uint32_t printed = (uint32_t)(((uint64_t)h * 0x20000 / sz3 + 1) / 2);
+
+            flagged += overflow;
+            limited += q > 0x1FFFF;
+            if (q < printed && printed - q > worst_below)
+                worst_below = printed - q;
+            if (q > printed && q - printed > worst_above)
+                worst_above = q - printed;
+        }
+    equal("quotients below the overflow that are flagged", flagged, 0);
+    equal("quotients past the limit", limited, 0);
+    equal("quotients within 3 below the printed formula", worst_below <= 3, true);
+    equal("quotients within 2 above the printed formula", worst_above <= 2, true);
+}
+
 static void figures(void)
 {
     bool overflow;
@@ -163,7 +212,7 @@ static void figures(void)
     projection(100, -50, 101);
     equal("RTPS 101 SXY2", cop2(14), halves(358, 20));
     equal("RTPS 101 FLAG", cop2(63), 0);
-    equal("RTPS 101 quotient", model_quotient(200, 101, &overflow), 129774);
+    equal("RTPS 101 quotient", model_quotient(200, 101, &overflow), 129773);
     equal("RTPS 101 overflow", overflow, false);
 
     fresh();
@@ -1773,7 +1822,7 @@ static bool within(int64_t z, int64_t screen, int64_t screen_offset, int64_t h, 
 {
     int64_t difference = z * (65536 * screen - screen_offset) - 65536 * h * x;
 
-    return difference <= 81920 * z && difference >= -81920 * z;
+    return difference <= 212992 * z && difference >= -212992 * z;
 }
 
 /* 01's whole-number form of demand 3 on vertices in front of the camera, RTPS and RTPT in turn. */
@@ -1817,14 +1866,18 @@ static void demand_3(void)
     equal("demand 3", kept, clear);
     equal("demand 3 met often", clear > 50000, true);
 
-    fresh(); /* the worst case: D = -81918.749996 * Z */
-    set(37, (uint32_t)-32768);
-    set(39, 65535);
-    set(58, 32768);
-    set(56, 1073840127);
+    fresh(); /* the worst case: D = -125,907.65 * Z */
+    set(37, 32758);
+    set(39, 62913);
+    set(58, 64900);
+    set(56, (uint32_t)-2147462969);
     command(0x01, 1, 0);
-    equal("demand 3 worst SX", cop2(14), 0);
-    equal("demand 3 worst FLAG", cop2(63), 0x00400000);
+    equal("demand 3 worst FLAG", cop2(63) >> 31, 0);
+    {
+        int64_t sx = half(cop2(14)), d = 62913 * (65536 * sx + 2147462969) - 65536LL * 64900 * 32758;
+
+        equal("demand 3 worst distance", d / 62913 == -125907, true);
+    }
 }
 
 /* ---- The disassembler -------------------------------------------------------- */
@@ -1933,6 +1986,7 @@ static void disassembler(void)
 int main(void)
 {
     figures();
+    division();
     refusals();
     unlisted_commands();
     search();

@@ -95,13 +95,6 @@ screenOf x = limited screenRange x
 unfoldable pub factorOf : ℤ → ℕ
 factorOf x = natAbs (limited factorRange x)
 
--- the perspective quotient: 1FFFFh when H ≥ 2·SZ3, else ((H·20000h/SZ3)+1)/2, each division rounding down
-unfoldable pub quotient : ℕ → ℕ → ℕ
-quotient h sz = (h * 0x20000 / sz + 1) / 2
-
-unfoldable pub ratioOf : ℕ → ℕ → ℕ
-ratioOf h sz = cond (leb (2 * sz) h) 0x1ffff (quotient h sz)
-
 -- ---- the flags that the tests of sums raise, where code names the bits
 
 -- bits for a value above a range and below it

@@ -1,11 +1,9 @@
 // One function for each kind of limit. Each gives the limited value and the bit that it sets, which the caller names
 // where a command uses one kind for several registers.
 ghost use mathlib.Core.Path.{_≡_};
-ghost use Prim.Native.Nat.{_*_, _^_, _<_};
-ghost use lib.Dec.{leb};
 ghost use Rattle.integers.specs.Clamp.{clamp, outside};
 ghost use Rattle.gte_arithmetic.specs.Checks.{raise};
-ghost use Rattle.gte_arithmetic.specs.Values.{lowest, irRange, colourRange, depthRange, screenRange, factorRange, limitFlag, irOf, sixteenth, colourOf, depthOf, screenOf, factorOf, ratioOf};
+ghost use Rattle.gte_arithmetic.specs.Values.{lowest, irRange, colourRange, depthRange, screenRange, factorRange, limitFlag, irOf, sixteenth, colourOf, depthOf, screenOf, factorOf};
 
 // A value of 64 bits after a test, with the FLAG bits that the test sets.
 pub struct Limited {
@@ -97,25 +95,5 @@ pub fn limit_factor(x: i64) -> Level
     Level {
         v: l.v as u32,
         flag: l.flag,
-    }
-}
-
-// The perspective quotient. H is unsigned.
-pub fn divide(h: u32, sz: u32) -> Level
-    requires { ⌜ (h < 65536) × (sz < 65536) ⌝ }
-    ensures is { λ r. ⌜ r ≡ record { v = ratioOf h sz; flag = raise (leb (2 * sz) h) 0x2_0000 } ⌝ }
-    ensures small { λ r. ⌜ r .v < 2 ^ 17 ⌝ }
-{
-    if 2 * sz <= h {
-        Level {
-            v: 0x1_ffff,
-            flag: 0x2_0000,
-        }
-    } else {
-        let n = (h as u64) * 0x2_0000 / (sz as u64);
-        Level {
-            v: ((n + 1) / 2) as u32,
-            flag: 0,
-        }
     }
 }

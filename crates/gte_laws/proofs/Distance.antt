@@ -1,9 +1,9 @@
 -- How far a projected coordinate lies from the exact quotient, whatever the division's error is: with the doubled quotient
 -- within c of 131,072·H/Z, the bound is 16,384·c + 65,536 (c = 1: 81,920; c = 9: 212,992).
 use mathlib.Core.Path.{_≡_}
-use Prim.Native.Nat.{ℕ, zero, _+_, _*_, _/_, _≤_, _<_}
+use Prim.Native.Nat.{ℕ, _+_, _*_, _≤_, _<_}
 use native.Mathlib.Omega.{arith}
-use native.Mathlib.Nat.{mul-assoc, add-mul, mul-le-mul-right, div-mul-le-self, div-add-mod', mod-lt}
+use native.Mathlib.Nat.{mul-assoc, add-mul, mul-le-mul-right}
 use lib.Dec.{lit<}
 use lib.IntN.{ℤ, pos, natAbs, _+ℤ_, _-ℤ_, _*ℤ_}
 use lib.Signed.{_≤ℤ_, shrZ}
@@ -11,7 +11,8 @@ use Rattle.integers.specs.Parts.{posPart, negPart, zarith, parts-add, parts-sub
 use Rattle.integers.specs.Product.{posPart-scale, negPart-scale, *ℤ-mono, natAbs-mul-≤}
 use Rattle.integers.specs.Ring.{whole, lit, ring, products, ⊖-≡}
 use Rattle.integers.specs.Floor.{shr-≤, shr->}
-use Rattle.gte_arithmetic.specs.Values.{quotient}
+use Rattle.gte_division.specs.Division.{quotient, printed}
+use Rattle.gte_division.proofs.Apart.{printed-above, printed-below, differ}
 use Rattle.gte_laws.specs.Demand.{Close}
 
 -- twice the distance D, from the quotient's error e = 2·q·Z - 131,072·H and the part f that the floor drops
@@ -50,28 +51,18 @@ close c z q h x o sx se =
     let d = pos z *ℤ (pos 65536 *ℤ s -ℤ o) -ℤ pos 65536 *ℤ pos h *ℤ x in
     bounded c z x e f d sx se (dropped-low m) (dropped-high m) (identity (pos z) (pos q) (pos h) x o s)
 
--- the printed division: c = 1
-quot-hi : (h z : ℕ) → 2 * (quotient h z * z) ≤ 131072 * h + z
-unfolding quotient
-quot-hi h z =
-    let n = h * 131072 / z in
-    let q = (n + 1) / 2 in
-    omega (arith, mul-le-mul-right z (two n), div-mul-le-self (h * 131072) z, add-mul n 1 z, mul-assoc 2 q z)
-  where
-    two : (n : ℕ) → 2 * ((n + 1) / 2) ≤ n + 1
-    two n = omega arith
+-- the hardware's division: the printed formula has c = 1, and the two are at most 4 apart, so c = 9
+module _ (h z : ℕ) (k : z < 65536) (less : h < 2 * z) where
+  apart : (printed h z ≤ quotient h z + 4) × (quotient h z ≤ printed h z + 4)
+  apart = differ .four h z k less
 
-quot-lo : (h z : ℕ) → zero < z → 131072 * h ≤ 2 * (quotient h z * z) + z
-unfolding quotient
-quot-lo h z p =
-    let n = h * 131072 / z in
-    let q = (n + 1) / 2 in
-    omega (arith, mul-le-mul-right z (two n), div-add-mod' (h * 131072) z, mod-lt (h * 131072) p, mul-assoc 2 q z)
-  where
-    two : (n : ℕ) → n ≤ 2 * ((n + 1) / 2)
-    two n = omega arith
+  quotient-above : 2 * (quotient h z * z) ≤ 131072 * h + 9 * z
+  quotient-above = omega (arith, mul-le-mul-right z (apart .1), add-mul (printed h z) 4 z, printed-above h z)
 
-pub quotient-error : (h z : ℕ) → zero < z → natAbs (pos (quotient h z) *ℤ pos z *ℤ pos 2 -ℤ pos h *ℤ pos 131072) ≤ 1 * z
-unfolding posPart negPart
-quotient-error h z p =
-    omega (zarith, quot-hi h z, quot-lo h z p, natAbs-gap (pos (quotient h z) *ℤ pos z *ℤ pos 2 -ℤ pos h *ℤ pos 131072), parts-sub (pos (quotient h z) *ℤ pos z *ℤ pos 2) (pos h *ℤ pos 131072))
+  quotient-below : 131072 * h ≤ 2 * (quotient h z * z) + 9 * z
+  quotient-below = omega (arith, mul-le-mul-right z (apart .0), add-mul (quotient h z) 4 z, printed-below h z (omega arith))
+
+  pub quotient-error : natAbs (pos (quotient h z) *ℤ pos z *ℤ pos 2 -ℤ pos h *ℤ pos 131072) ≤ 9 * z
+  unfolding posPart negPart
+  quotient-error =
+      omega (zarith, quotient-above, quotient-below, natAbs-gap (pos (quotient h z) *ℤ pos z *ℤ pos 2 -ℤ pos h *ℤ pos 131072), parts-sub (pos (quotient h z) *ℤ pos z *ℤ pos 2) (pos h *ℤ pos 131072))

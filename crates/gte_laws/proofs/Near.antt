@@ -10,13 +10,14 @@ use lib.Signed.{_≤ℤ_, ltZ, shrZ, pos-natAbs, yes-nonNeg}
 use mir.Syntax.{w16}
 use mir.Val.{SFits, toZ, ofZ}
 use mir.Facts.{toZ-ofZ, fits-ofZ}
-use Rattle.integers.specs.Parts.{posPart, negPart, zarith, Mag, natAbs-within}
+use Rattle.integers.specs.Parts.{posPart, negPart, zarith, Mag, natAbs-gap, natAbs-within}
 use Rattle.integers.specs.Bound.{mag-shr-div}
 use Rattle.integers.specs.Wrap.{wrap-fits}
 use Rattle.integers.specs.Clamp.{outside, inside, clamp-clear}
 use Rattle.words.specs.Words.{lowSigned, highHalf}
 use Rattle.gte_arithmetic.specs.Checks.{some, counted}
-use Rattle.gte_arithmetic.specs.Values.{macOf, irOf, depthOf, screenOf, quotient, ratioOf}
+use Rattle.gte_arithmetic.specs.Values.{macOf, irOf, depthOf, screenOf}
+use Rattle.gte_division.specs.Division.{quotient, ratioOf}
 use Rattle.gte_arithmetic.specs.declared.values.Wide.{Wide}
 use Rattle.gte_arithmetic.proofs.Flags.{fst}
 use Rattle.gte_perspective.specs.Projection.{farOf, vertexChecks, vertexOf}
@@ -114,8 +115,16 @@ module _ (s : Wide) (k : Camera) (clear : (b : ℕ) → counted / 2 ^ b % 2 ≡ 
   unfolding vertexChecks screenChecks
   divides = rw depth-z at (fst (leb (2 * depthOf (farOf (s .z))) (k .h)) false (clear 17 refl))
 
+  -- SZ3 has 16 bits, and H is less than twice as large
+  short : natAbs (shrZ (s .z) 4096) < 65536
+  unfolding posPart negPart
+  short = let b = inside (pos 0) (pos 0xffff) (shrZ (s .z) 4096) in-z in omega (zarith, natAbs-gap (shrZ (s .z) 4096))
+
+  below : k .h < 2 * natAbs (shrZ (s .z) 4096)
+  below = let h = divides in omega (arith, leb-false)
+
   positive : 0 < natAbs (shrZ (s .z) 4096)
-  positive = let h = divides in omega (arith, leb-false)
+  positive = let h = below in omega arith
 
   ratio-is : ratioOf (k .h) (natAbs (shrZ (s .z) 4096)) ≡ quotient (k .h) (natAbs (shrZ (s .z) 4096))
   unfolding ratioOf
@@ -148,7 +157,7 @@ module _ (s : Wide) (k : Camera) (clear : (b : ℕ) → counted / 2 ^ b % 2 ≡ 
   near-one x o e =
       let z = natAbs (shrZ (s .z) 4096) in
       subst (λ (t : ℤ). Close tolerance (k .h) t x o (on x o)) (natural (shrZ (s .z) 4096) in-z)
-      (close 1 z (quotient (k .h) z) (k .h) x o (short-abs x e) (quotient-error (k .h) z positive))
+      (close 9 z (quotient (k .h) z) (k .h) x o (short-abs x e) (quotient-error (k .h) z short below))
 
   pub near-part : NearPart tolerance s k (vertexOf true s k .xy)
   unfolding posPart negPart

@@ -14,9 +14,9 @@ use Rattle.gte_inputs.specs.Inputs.{inputsOf}
 use Rattle.gte_perspective.specs.Vertices.{rotated}
 use Rattle.gte.specs.Commands.{Command, RTPS, RTPT, commandIn, sfOf, commandOf}
 
--- one and a quarter pixels, in 1/65,536 of a pixel
+-- three and a quarter pixels, in 1/65,536 of a pixel
 abbrev pub tolerance : ℕ
-tolerance = 81920
+tolerance = 212992
 
 -- Z·(65,536·S - O) differs from 65,536·H·X by at most `bound`·Z
 abbrev pub Close : ℕ → ℕ → ℤ → ℤ → ℤ → ℤ → Type 0

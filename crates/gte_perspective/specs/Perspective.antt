@@ -7,8 +7,9 @@ use mir.Syntax.{w16}
 use mir.Val.{ofZ}
 use Rattle.integers.specs.Wrap.{wrap}
 use Rattle.gte_arithmetic.specs.Checks.{Check, flags}
-use Rattle.gte_arithmetic.specs.Values.{screenOf, factorOf, ratioOf, mac0Checks, divisionCheck, screenCheck, factorCheck}
+use Rattle.gte_arithmetic.specs.Values.{screenOf, factorOf, mac0Checks, divisionCheck, screenCheck, factorCheck}
 use Rattle.gte_arithmetic.specs.declared.values.Camera.{Camera}
+use Rattle.gte_division.specs.Division.{ratioOf}
 use Rattle.gte_perspective.specs.declared.screen.Screen.{Screen}
 
 -- a MAC0 value of lines 5 to 7: the quotient times a factor, plus an offset, exact

@@ -1,11 +1,13 @@
 -- The starred figures, together: what the definitions give is what 01 says.
 use mathlib.Core.List.{map}
 use mathlib.Core.Path.{_≡_, refl}
+use lib.Count.{leadingZeros}
 use Rattle.integers.specs.Floor.{modZ}
 use Rattle.integers.specs.Wrap.{wrap}
 use Rattle.integers.specs.Clamp.{clamp}
 use Rattle.gte_arithmetic.specs.Checks.{or, flags, flagWord}
-use Rattle.gte_arithmetic.specs.Values.{macOf, irOf, depthOf, screenOf, factorOf, quotient, ratioOf}
+use Rattle.gte_arithmetic.specs.Values.{macOf, irOf, depthOf, screenOf, factorOf}
+use Rattle.gte_division.specs.Division.{entryOf, refined, quotient, ratioOf}
 use Rattle.gte_sums.specs.Sums.{rowOf, productOf}
 use Rattle.gte_line.specs.Line.{lineChecksAt, lineOf}
 use Rattle.gte_perspective.specs.Projection.{farOf, vertexChecks, vertexOf}
@@ -37,5 +39,5 @@ use Rattle.cpu_step.specs.Step.{issueOf, stepOf}
 use Rattle.step_laws.specs.Figures.{Figure, figures}
 
 pub bench-figures : map (λ (f : Figure). f .got) figures ≡ map (λ (f : Figure). f .said) figures
-unfolding figures modZ wrap clamp or flags flagWord macOf irOf depthOf screenOf factorOf quotient ratioOf rowOf productOf lineChecksAt lineOf exactOf farOf pairOf screenChecks onScreen vertexChecks vertexOf windingOf averageChecks averageOf squaresOf kinds readOf reads short half field fieldsOf leadingFrom leading pushedXY spreadFields written writeOf matrixOf vectorOf longOf cornerOf inputsOf rotated squareOf commands leaves outcomeOf commandOf stored flagged pushedZ lineLeft pushedVertex vertexKept vertexLeft windingLeft averageLeft wordAt bytesOf specials primaries decodeOf owners ownerOf sumOf mapped segmentOf placeOf M.readOf F.fieldsOf I.executeOf C.usableOf X.raisedSystem X.vectorOf X.raisedOf writeStep trapStep performOf issueOf stepOf
+unfolding figures modZ wrap clamp or flags flagWord macOf irOf depthOf screenOf factorOf entryOf refined quotient ratioOf leadingZeros rowOf productOf lineChecksAt lineOf exactOf farOf pairOf screenChecks onScreen vertexChecks vertexOf windingOf averageChecks averageOf squaresOf kinds readOf reads short half field fieldsOf leadingFrom leading pushedXY spreadFields written writeOf matrixOf vectorOf longOf cornerOf inputsOf rotated squareOf commands leaves outcomeOf commandOf stored flagged pushedZ lineLeft pushedVertex vertexKept vertexLeft windingLeft averageLeft wordAt bytesOf specials primaries decodeOf owners ownerOf sumOf mapped segmentOf placeOf M.readOf F.fieldsOf I.executeOf C.usableOf X.raisedSystem X.vectorOf X.raisedOf writeStep trapStep performOf issueOf stepOf
 bench-figures = refl

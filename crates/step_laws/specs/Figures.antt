@@ -2,7 +2,7 @@
 use mathlib.Core.List.{List, [], _∷_, map}
 use Prim.Native.Nat.{ℕ, zero, suc, _+_, _*_, _/_, _%_}
 use lib.ListN.{getD, set}
-use Rattle.gte_arithmetic.specs.Values.{ratioOf}
+use Rattle.gte_division.specs.Division.{ratioOf}
 use Rattle.gte_registers.specs.Registers.{reg, writeOf}
 use Rattle.gte.specs.Commands.{commandOf}
 use Rattle.byte_order.specs.Bytes.{bytesOf}
@@ -60,7 +60,7 @@ unfoldable pub figures : List Figure
 figures =
     record { got = projected (commandOf 0x4a180001 (bench 100 0xffce 1000)); said = 13107 ∷ 179 ∷ 110 ∷ 0 ∷ [] }
     ∷ record { got = projected (commandOf 0x4a180001 (bench 100 0xffce 100)); said = 0x1ffff ∷ 359 ∷ 20 ∷ 0x8002_0000 ∷ [] }
-    ∷ record { got = projected (commandOf 0x4a180001 (bench 100 0xffce 101)); said = 129774 ∷ 358 ∷ 20 ∷ 0 ∷ [] }
+    ∷ record { got = projected (commandOf 0x4a180001 (bench 100 0xffce 101)); said = 129773 ∷ 358 ∷ 20 ∷ 0 ∷ [] }
     ∷ record { got = reg (commandOf 0x4b400006 (filled ((12 ≔ 0) ∷ (13 ≔ 10) ∷ (14 ≔ 0xa_0000) ∷ []) (zeros 64))) 24 ∷ []; said = 100 ∷ [] }
     ∷ record { got = reg (commandOf 0x4b400006 (filled ((12 ≔ 0) ∷ (13 ≔ 0xa_0000) ∷ (14 ≔ 10) ∷ []) (zeros 64))) 24 ∷ []; said = 0xffff_ff9c ∷ [] }
     ∷ record { got = reg (commandOf 0x4b58002d (filled ((17 ≔ 300) ∷ (18 ≔ 300) ∷ (19 ≔ 300) ∷ (61 ≔ 1365) ∷ []) (zeros 64))) 7 ∷ []; said = 299 ∷ [] }

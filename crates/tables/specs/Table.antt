@@ -2,7 +2,8 @@
 use mathlib.Core.Bool.{cond}
 use mathlib.Core.List.{List, [], _∷_}
 use mathlib.Core.Path.{_≡_, refl}
-use Prim.Native.Nat.{ℕ}
+use Prim.Native.Nat.{ℕ, zero, suc, _+_, _≤_}
+use native.Mathlib.Omega.{arith}
 use borrow.Author.Tests.{ne-eqb}
 use lib.Dec.{eqb}
 
@@ -31,3 +32,16 @@ pub lookup-none : {A : Type 0} (rows : List (Row A)) (other : A) (n : ℕ) (G : 
 unfolding NoneOf
 lookup-none [] other n G g = refl
 lookup-none ((k ⇒ a) ∷ rows) other n G g = rw (ne-eqb n k (kept rows n (G × (n ≡ k → ⊥)) g .1)) (lookup-none rows other n (G × (n ≡ k → ⊥)) g)
+
+-- the same where the numbers are the n from i on: the last arm is for those past them
+abbrev pub countFrom : ℕ → ℕ → List (Row ℕ)
+countFrom i zero = []
+countFrom i (suc n) = (i ⇒ i) ∷ countFrom (suc i) n
+
+pub past : (i n k : ℕ) (G : Type 0) → i ≤ k → NoneOf (countFrom i n) k G → i + n ≤ k
+unfolding NoneOf
+past i zero k G l g = omega arith
+past i (suc n) k G l g =
+    let other = kept (countFrom (suc i) n) k (G × (k ≡ i → ⊥)) g .1 in
+    let h = past (suc i) n k (G × (k ≡ i → ⊥)) (omega arith) g in
+    omega arith

@@ -11,8 +11,9 @@ use Rattle.integers.specs.Bound.{back}
 use Rattle.integers.specs.Clamp.{outside}
 use Rattle.integers.specs.Wrap.{wrap}
 use Rattle.gte_arithmetic.specs.Checks.{or, raise, flags}
-use Rattle.gte_arithmetic.specs.Values.{screenOf, factorOf, ratioOf, mac0Flag}
+use Rattle.gte_arithmetic.specs.Values.{screenOf, factorOf, mac0Flag}
 use Rattle.gte_arithmetic.specs.declared.limits.Short.{Short}
+use Rattle.gte_division.specs.Division.{ratioOf}
 use Rattle.gte_arithmetic.proofs.Flags.{or-assoc, or-none}
 use Rattle.gte_perspective.specs.Perspective.{exactOf, pairOf, onScreen, screenChecks}
 use Rattle.gte_arithmetic.specs.declared.values.Camera.{Camera}

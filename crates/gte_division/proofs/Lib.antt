@@ -1,0 +1,3 @@
+pub mod Apart
+pub mod Normal
+pub mod Table
