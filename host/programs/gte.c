@@ -98,14 +98,23 @@ static int32_t rotation(unsigned row, unsigned column)
     return index % 2 == 0 ? low(control[index / 2]) : high(control[index / 2]);
 }
 
-/* The perspective quotient, as the formula is printed. */
+/* The perspective quotient as the hardware works it out, the first guess by the rule of its table. */
 static int64_t quotient(uint32_t plane, uint32_t depth)
 {
     if (plane >= 2 * depth) {
         raise(17);
         return 0x1FFFF;
     }
-    return ((int64_t)plane * 0x20000 / depth + 1) / 2;
+    int64_t numerator = plane, divisor = depth;
+    for (; divisor < 0x8000; divisor *= 2)
+        numerator *= 2;
+    int64_t place = (divisor - 0x7FC0) / 128;
+    int64_t entry = (0x40000 / (place + 0x100) + 1) / 2 - 0x101;
+    int64_t guess = 0x101 + (entry < 0 ? 0 : entry);
+    divisor = (0x2000080 - divisor * guess) / 256;
+    divisor = (0x80 + divisor * guess) / 256;
+    int64_t result = (numerator * divisor + 0x8000) / 65536;
+    return result > 0x1FFFF ? 0x1FFFF : result;
 }
 
 static int64_t to_mac0(int64_t value)
