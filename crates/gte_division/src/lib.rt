@@ -75,8 +75,8 @@ fn ratio(h: u32, sz: u32) -> u32
     let z = u16::leading_zeros(sz as u16);
     let n = h << z;
     let d = sz << z;
-    let q = (((n as u64) * (reciprocal(d) as u64) + 0x8000) / 0x1_0000) as u32;
-    if q < 0x2_0000 { q } else { 0x1_ffff }
+    let q = ((n as u64) * (reciprocal(d) as u64) + 0x8000) / 0x1_0000;
+    if q < 0x2_0000 { q as u32 } else { 0x1_ffff }
 }
 
 // The perspective quotient, with bit 17. H is unsigned.

@@ -10,8 +10,7 @@ use words::signed::to_signed;
 
 // Registers 56 to 60. H is unsigned: the low half, and not what a read returns.
 pub fn camera(c: &[u32; 64]) -> Camera
-    ensures is { λ r. ⌜ r ≡ inputsOf (now (c .entry)) .camera ⌝ }
-    ensures small { λ r. ⌜ r .h < 65536 ⌝ }
+    ensures { λ r. ⌜ r ≡ inputsOf (now (c .entry)) .camera ⌝ }
 {
     Camera {
         h: c[58] % 65536,

@@ -70,7 +70,7 @@ fn third_line(x: i64, sf: bool) -> Third
 
 // All seven lines, from the three exact sums.
 pub fn project(s: Wide, k: Camera, sf: bool) -> Vertex
-    requires { ⌜ Bounded (3 * 2 ^ 43) s × (k .h < 65536) ⌝ }
+    requires { ⌜ Bounded (3 * 2 ^ 43) s ⌝ }
     ensures { λ r. ⌜ r ≡ vertexOf sf s k ⌝ }
 {
     let a = finish_one(s.x, sf, false, 0x4000_0000, 0x800_0000, 0x100_0000);

@@ -107,7 +107,7 @@ fn cue_factor(q: u32, dqa: i16, dqb: i32) -> Factor
 
 // Lines 5 to 7.
 pub fn to_screen(k: Camera, sz: u32, ir1: i16, ir2: i16) -> Screen
-    requires { ⌜ (k .h < 65536) × (sz < 65536) ⌝ }
+    requires { ⌜ sz < 65536 ⌝ }
     ensures { λ r. ⌜ r ≡ onScreen k sz ir1 ir2 ⌝ }
 {
     let q = divide(k.h, sz);

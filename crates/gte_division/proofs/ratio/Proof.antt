@@ -69,6 +69,6 @@ ratio-spec =
     (λ c. search needs)
     (λ c. record { fits = omega (arith, product c) })
     (λ c. record { fits = omega (arith, product c) })
-    (λ c. record { fits = omega (arith, product c) })
+    (λ c. search needs)
     returns
     returns-2)

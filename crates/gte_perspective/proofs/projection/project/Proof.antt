@@ -68,7 +68,7 @@ is-p : (c : tie.After-to-screen) → c .to-screen .result ≡ onScreen (c .befor
 is-p c = rw (back w16 (c .before .before .before .before .before .before .before .finish-one .result .ir) (c .before .before .struct-told4 .given .1 .0 .1), back w16 (c .before .before .before .before .before .finish-one2 .result .ir) (c .before .struct-told5 .given .1 .0 .1)) at (c .to-screen .ensures)
 
 to-screen-requires : tie.Need-to-screen-requires
-to-screen-requires c κs = (c .before .before .before .before .before .before .before .before .pre .1, rw (is-c (c .before .before)) (depth-small (farOf (c .before .before .before .before .before .before .before .before .args .s .z))))
+to-screen-requires c κs = rw (is-c (c .before .before)) (depth-small (farOf (c .before .before .before .before .before .before .before .before .args .s .z)))
 
 returns : tie.Need-returns
 unfolding or

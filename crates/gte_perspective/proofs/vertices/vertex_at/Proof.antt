@@ -13,7 +13,7 @@ returns c =
       c .before .before .before .before .before .rotation .ensures,
       c .before .before .before .before .translation .ensures,
       c .before .before .before .vector .ensures,
-      c .before .camera .ensures .0,
+      c .before .camera .ensures,
     )
 
 pub vertex-at-spec : {M : Type 1} → statement M
