@@ -1,10 +1,9 @@
 -- The values that every command tests, with their ranges (01 "GTE arithmetic"). k is 1, 2 or 3, the number of a MAC.
 use mathlib.Core.Bool.{Bool, cond}
 use mathlib.Core.List.{List, _∷_}
-use Prim.Native.Nat.{ℕ, _+_, _*_, _-_, _/_, _^_}
+use Prim.Native.Nat.{ℕ, _-_, _^_}
 use lib.IntN.{ℤ, pos, negsuc, natAbs}
 use lib.Signed.{ltZ, shrZ}
-use lib.Dec.{leb}
 use Rattle.integers.specs.Wrap.{wrap}
 use Rattle.integers.specs.Clamp.{clamp, outside}
 use Rattle.gte_arithmetic.specs.Checks.{or, raise, Test, Check, check, above, below, beyond, division}

@@ -1,7 +1,7 @@
 -- How far the hardware's quotient lies from the printed one, and from H·65,536/SZ3 itself.
 use mathlib.Core.Bool.{Bool, true, false, _&&_}
 use mathlib.Core.Path.{_≡_, refl}
-use Prim.Native.Nat.{ℕ, zero, suc, _+_, _*_, _-_, _/_, _^_, _≤_, _<_, min}
+use Prim.Native.Nat.{ℕ, zero, _+_, _*_, _-_, _/_, _^_, _≤_, _<_, min}
 use native.Mathlib.Decide.{decLt}
 use native.Mathlib.Nat.{mul-assoc, mul-comm, mul-left-comm, add-mul, mul-le-mul-right, mul-le-mul-left, div-mul-le-self, div-add-mod', mod-lt}
 use native.Mathlib.Omega.{arith}

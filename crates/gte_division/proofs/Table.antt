@@ -2,7 +2,7 @@
 use mathlib.Core.Path.{_≡_, refl, sym, ap, _∙_}
 use Prim.Native.Nat.{ℕ, zero, suc, _+_, _*_, _-_, _/_, _%_, _^_, _≤_, _<_}
 use native.Mathlib.Decide.{decLt}
-use native.Mathlib.Nat.{mul-le-mul, div-mul-le-self, div-div-eq-div-mul, div-one, pow-suc, mul-comm, add-zero}
+use native.Mathlib.Nat.{mul-le-mul, div-mul-le-self, div-div-eq-div-mul, pow-suc, mul-comm, add-zero}
 use native.Mathlib.Omega.{arith}
 use Rattle.gte_division.specs.Division.{entryOf, packed}
 

@@ -1,7 +1,7 @@
 // One vertex projected.
 ghost use mathlib.Core.Path.{_≡_};
 ghost use mathlib.Core.Bool.{false};
-ghost use Prim.Native.Nat.{_*_, _^_, _<_};
+ghost use Prim.Native.Nat.{_*_, _^_};
 ghost use Rattle.integers.specs.Parts.{Mag};
 ghost use Rattle.gte_arithmetic.specs.Checks.{or};
 ghost use Rattle.gte_arithmetic.specs.Values.{irRange, depthRange, limitFlag, macOf, irOf, depthOf, sumFlag};
