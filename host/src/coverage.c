@@ -67,14 +67,16 @@ enum { NOT_EMPTY, LENGTH_0_IN_RAM, LENGTH_0_ELSEWHERE, BAD_RAM_LENGTH, STARTS_OU
 static const char *const window_names[WINDOW_KINDS] = {"not empty", "length 0 in RAM", "length 0 elsewhere",
                                                        "bad RAM length", "starts outside RAM", "ends outside RAM"};
 
-/* What RTPS and RTPT divided: SZ3 by its leading zeros, the ends of the table of first guesses, and the limit with and without bit 17. */
-enum { FIRST_ENTRY = 16, LAST_ENTRY, LIMIT_UNFLAGGED, LIMIT_FLAGGED, QUOTIENT_KINDS };
+/* What RTPS and RTPT divided: SZ3 by its leading zeros, and the limit with and without bit 17. */
+enum { LIMIT_UNFLAGGED = 16, LIMIT_FLAGGED, QUOTIENT_KINDS };
+
+enum { TABLE_ENTRIES = 257 };
 
 static const char *const quotient_names[QUOTIENT_KINDS] = {
     "0 leading zeros", "1 leading zero", "2 leading zeros", "3 leading zeros", "4 leading zeros", "5 leading zeros",
     "6 leading zeros", "7 leading zeros", "8 leading zeros", "9 leading zeros", "10 leading zeros", "11 leading zeros",
-    "12 leading zeros", "13 leading zeros", "14 leading zeros", "15 leading zeros", "first entry", "last entry",
-    "1FFFFh without bit 17", "1FFFFh with bit 17",
+    "12 leading zeros", "13 leading zeros", "14 leading zeros", "15 leading zeros", "1FFFFh without bit 17",
+    "1FFFFh with bit 17",
 };
 
 static const char *const exception_names[13] = {[4] = "AdEL", [5] = "AdES", [6] = "IBE", [7] = "DBE", [8] = "Sys",
@@ -89,7 +91,7 @@ static uint64_t exceptions_user, exceptions_bev, steps_user;
 static uint64_t run_codes[MODEL_UNLISTED + 1], search_codes[MODEL_FLAG_UP + 1];
 static uint64_t load_events[LOAD_EVENTS];
 static uint64_t windows[WINDOW_KINDS];
-static uint64_t quotients[QUOTIENT_KINDS];
+static uint64_t quotients[QUOTIENT_KINDS], table_entries[TABLE_ENTRIES];
 
 static int find_index(uint32_t word)
 {
@@ -152,8 +154,7 @@ static void count_quotient(uint32_t h, uint32_t sz3)
     for (; divisor < 0x8000; divisor *= 2)
         zeros++;
     quotients[zeros]++;
-    quotients[FIRST_ENTRY] += divisor < 0x8040;
-    quotients[LAST_ENTRY] += divisor >= 0xFFC0;
+    table_entries[(divisor - 0x7FC0) / 128]++;
 }
 
 /* What became of a waiting load in this step. */
@@ -300,7 +301,7 @@ static void tally(struct tally *t, bool reached, const char *format, ...)
 enum {
     ALL_INSTRUCTIONS, ALL_COMMANDS, ALL_FORMS, ALL_MVMVA, BITS_SET, BITS_CLEAR, BITS_IMPOSSIBLE, OUTSIDE_SLOTS,
     IN_SLOTS, ALL_EVENTS, RUN_CODES, SEARCH_CODES, ALL_WINDOWS, ALL_QUOTIENTS,
-    TALLIES
+    ALL_ENTRIES, TALLIES
 };
 
 static void tally_instructions(struct tally *t)
@@ -366,6 +367,7 @@ static void tally_all(struct tally t[TALLIES])
         [SEARCH_CODES] = "codes of the search",
         [ALL_WINDOWS] = "kinds of windows",
         [ALL_QUOTIENTS] = "kinds of quotients",
+        [ALL_ENTRIES] = "entries of the division's table",
     };
     unsigned i;
 
@@ -389,6 +391,8 @@ static void tally_all(struct tally t[TALLIES])
         tally(&t[ALL_WINDOWS], windows[i] != 0, "%s", window_names[i]);
     for (i = 0; i < QUOTIENT_KINDS; i++)
         tally(&t[ALL_QUOTIENTS], quotients[i] != 0, "%s", quotient_names[i]);
+    for (i = 0; i < TABLE_ENTRIES; i++)
+        tally(&t[ALL_ENTRIES], table_entries[i] != 0, "%u", i);
 }
 
 const char *coverage_missing(void)

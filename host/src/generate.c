@@ -151,8 +151,22 @@ static void make_cop2_well_formed(uint32_t *r)
             r[63] |= 0x80000000;
 }
 
-/* H and a depth below the overflow whose quotient would be 20000h, and is cut: three of the forty such pairs. */
-static const uint16_t cut_pairs[][2] = {{0xFE3F, 0x7F20}, {0xF015, 0x780B}, {0xE383, 0x71C2}};
+/* H and SZ3 below the overflow: any leading zeros and any entry of the table, or a quotient that is cut (three of the forty). */
+struct quotient {
+    uint32_t h, sz3;
+};
+
+static struct quotient random_quotient(struct random *r)
+{
+    static const struct quotient cut[] = {{0xFE3F, 0x7F20}, {0xF015, 0x780B}, {0xE383, 0x71C2}};
+    struct quotient q;
+
+    if (chance(r, 15))
+        return PICK(r, cut);
+    q.sz3 = (0x8000 + below(r, 0x8000)) >> below(r, 16);
+    q.h = below(r, q.sz3 < 0x8000 ? 2 * q.sz3 : 0x10000);
+    return q;
+}
 
 /* A depth around a limit: 0, 7FFFh, FFFFh, -8000h, or anywhere. */
 static int32_t random_depth(struct random *r)
@@ -177,8 +191,9 @@ static void projection_recipe(struct random *r, uint32_t *c)
     static const int64_t screen[] = {0x3FFFFFF, 0x4000000, -0x4000000, -0x4000001, 0x7FFFFFFF, 0x80000000,
                                      -0x80000000LL, -0x80000001LL, 0, -1};
     static const int64_t cue[] = {0, -1, 0xFFF, 0x1000FFF, 0x1001000, 0x7FFFFFFF, 0x80000000, -0x80000000LL, -0x80000001LL};
-    const uint16_t *cut = chance(r, 5) ? PICK(r, cut_pairs) : NULL;
-    int32_t depth = cut ? cut[1] : random_depth(r), reach, z;
+    bool divides = chance(r, 30);
+    struct quotient q = random_quotient(r);
+    int32_t depth = divides ? (int32_t)q.sz3 : random_depth(r), reach, z;
     int64_t quotient, x, y;
     uint32_t h, i;
     bool overflow;
@@ -195,10 +210,10 @@ static void projection_recipe(struct random *r, uint32_t *c)
     c[39] = (uint32_t)reach;
     for (i = 1; i < 6; i += 2) {
         z = i == 1 || chance(r, 60) ? depth + (int32_t)below(r, 5) - 2 : random_depth(r);
-        c[i] = (uint32_t)((cut && i == 1 ? depth : z) - reach);
+        c[i] = (uint32_t)((divides && (i == 1 || chance(r, 50)) ? depth : z) - reach);
     }
     h = chance(r, 60) ? 2 * (uint32_t)depth + below(r, 7) - 3 : chance(r, 50) ? (uint32_t)depth : edge_half(r);
-    c[58] = cut ? cut[0] : h & 0xFFFF;
+    c[58] = divides ? q.h : h & 0xFFFF;
     z = (int16_t)c[1] + reach;
     z = z < 0 ? 0 : z > 0xFFFF ? 0xFFFF : z;
     quotient = model_quotient(c[58], (uint32_t)z, &overflow);
@@ -218,6 +233,10 @@ static void projection_recipe(struct random *r, uint32_t *c)
     c[59] = chance(r, 50) ? below(r, 5) - 2 : edge_half(r);
     if (chance(r, 70))
         c[60] = (uint32_t)(PICK(r, cue) - quotient * (int16_t)c[59] + (int64_t)below(r, 3) - 1);
+    if (divides && chance(r, 70)) { /* MAC0 is the quotient */
+        c[59] = 1;
+        c[60] = 0;
+    }
 }
 
 /* Sums at -2^43 and 2^43-1: a translation of 32 bits and one product, the rest zero. */
