@@ -161,7 +161,7 @@ static void quotient(uint32_t h, uint32_t sz3, uint32_t expected)
 /* 02, Ticket 2, and 001's section on division: what they say of single quotients, and the distance from the printed formula. */
 static void division(void)
 {
-    uint32_t sz3, h, worst_below = 0, worst_above = 0, limited = 0, flagged = 0;
+    uint32_t sz3, i, worst_below = 0, worst_above = 0, limited = 0, flagged = 0;
     bool overflow;
 
     quotient(200, 1000, 13107);
@@ -177,9 +177,10 @@ static void division(void)
     equal("quotient 0/0", model_quotient(0, 0, &overflow), 0x1FFFF);
     equal("quotient 0/0 overflows", overflow, true);
 
-    /* every SZ3, with H at both ends of what it allows and at places between */
+    /* every SZ3, with H at both ends of what it allows and at fifteen places between */
     for (sz3 = 1; sz3 < 0x10000; sz3++)
-        for (h = 0; h < 2 * sz3 && h < 0x10000; h += 1 + (h + 2 < 2 * sz3 ? sz3 / 8 : 0)) {
+        for (i = 0; i <= 16; i++) {
+            uint32_t highest = sz3 < 0x8000 ? 2 * sz3 - 1 : 0xFFFF, h = highest * i / 16;
             uint32_t q = model_quotient(h, sz3, &overflow);
             uint32_t printed = (uint32_t)(((uint64_t)h * 0x20000 / sz3 + 1) / 2);
 

@@ -1,5 +1,5 @@
 -- How far the hardware's quotient lies from the printed one, and from H·65,536/SZ3 itself.
-use mathlib.Core.Bool.{Bool, true, false, _&&_}
+use mathlib.Core.Bool.{Bool, _&&_}
 use mathlib.Core.Path.{_≡_, refl}
 use Prim.Native.Nat.{ℕ, zero, _+_, _*_, _-_, _/_, _^_, _≤_, _<_, min}
 use native.Mathlib.Decide.{decLt}
@@ -7,7 +7,7 @@ use native.Mathlib.Nat.{mul-assoc, mul-comm, mul-left-comm, add-mul, mul-le-mul-
 use native.Mathlib.Omega.{arith}
 use lib.Count.{leadingZeros}
 use lib.Dec.{T, leb, leb→le}
-use Rattle.tables.specs.Every.{every, at}
+use Rattle.tables.specs.Every.{every, at, and-left, and-right}
 use Rattle.gte_division.specs.Division.{entryOf, refined, quotient, printed, Apart, Differ}
 use Rattle.gte_division.proofs.Normal.{normal}
 
@@ -20,21 +20,18 @@ unfolding refined entryOf
 all-inverse = tt
 
 refined-near : (d : ℕ) → 2 ^ 15 ≤ d → d < 2 ^ 16 → (2 ^ 32 ≤ d * refined d + 85525) × (d * refined d ≤ 2 ^ 32 + 63032)
-refined-near d l h = both (at inverse 0x8000 0x8000 all-inverse d l h)
-  where
-    and-both : (a b : Bool) → T (a && b) → T a × T b
-    and-both true b t = (tt, t)
-    and-both false b t = absurd t
-
-    both : T (inverse d) → (2 ^ 32 ≤ d * refined d + 85525) × (d * refined d ≤ 2 ^ 32 + 63032)
-    both t = let k = and-both (leb (2 ^ 32) (d * refined d + 85525)) (leb (d * refined d) (2 ^ 32 + 63032)) t in (leb→le _ _ (k .0), leb→le _ _ (k .1))
+refined-near d l h =
+    let t = at inverse 0x8000 0x8000 all-inverse d l h in
+    let low = leb (2 ^ 32) (d * refined d + 85525) in
+    let high = leb (d * refined d) (2 ^ 32 + 63032) in
+    (leb→le _ _ (and-left low high t), leb→le _ _ (and-right low high t))
 
 -- ---- the quotient before it is cut, times SZ3. p is the power of two of the shift, r the refined divisor.
 module _ (h sz p r : ℕ) (low : 2 ^ 32 ≤ sz * p * r + 85525) (high : sz * p * r ≤ 2 ^ 32 + 63032) (less : h < 2 * sz) where
   abbrev q : ℕ
   q = (h * p * r + 0x8000) / 0x1_0000
 
-  -- N·S = H·A of both sides
+  -- the shift goes from the numerator to the divisor
   crossed : h * p * r * sz ≡ h * (sz * p * r)
   crossed = simp (mul-assoc, mul-comm, mul-left-comm)
 
