@@ -37,8 +37,8 @@ struct workload {
 
 enum { ZERO = 0, T0 = 8, T1, T2, T3, T4, T5, T6, T7, S0, S1, S2 };
 
-/* Kernel mode, COP2 usable, registers of a camera that looks at three vertices in front of it. */
-static void fresh(struct workload *w)
+/* Kernel mode, COP2 usable, registers of a camera that looks at three vertices in front of it, and one register as given. */
+static void fresh_with(struct workload *w, unsigned number, uint32_t value)
 {
     struct model m = {0};
     static const struct {
@@ -62,7 +62,13 @@ static void fresh(struct workload *w)
         if (i < 6)
             put_word(w->ram + DATA + 0x20 + 4 * i, camera[i].value);
     }
+    model_cop2_write(&m, number, value);
     model_store(&m, w->image);
+}
+
+static void fresh(struct workload *w)
+{
+    fresh_with(w, 63, 0);
 }
 
 static void put_code(struct workload *w, const uint32_t *code, unsigned words)
@@ -122,19 +128,45 @@ static void rtpt_in_16_loop(struct workload *w)
     put_code(w, code, sizeof code / sizeof *code);
 }
 
-/* Nothing but RTPT and one jump, with RTPT in its delay slot. */
-#define RTPT_LOOP_WORDS 1024
+/* Nothing but one command and one jump, with the command in its delay slot. */
+#define COMMAND_LOOP_WORDS 1024
+#define COMMANDS_A_STEP ((COMMAND_LOOP_WORDS - 1.0) / COMMAND_LOOP_WORDS)
+
+static void command_loop(struct workload *w, uint32_t command)
+{
+    uint32_t code[COMMAND_LOOP_WORDS];
+    unsigned i;
+
+    for (i = 0; i < COMMAND_LOOP_WORDS; i++)
+        code[i] = encode_command(command, 1, 0);
+    code[COMMAND_LOOP_WORDS - 2] = encode_j(OP_J, CODE);
+    put_code(w, code, COMMAND_LOOP_WORDS);
+}
 
 static void rtpt_loop(struct workload *w)
 {
-    uint32_t code[RTPT_LOOP_WORDS];
-    unsigned i;
-
-    for (i = 0; i < RTPT_LOOP_WORDS; i++)
-        code[i] = encode_command(0x30, 1, 0);
-    code[RTPT_LOOP_WORDS - 2] = encode_j(OP_J, CODE);
     fresh(w);
-    put_code(w, code, RTPT_LOOP_WORDS);
+    command_loop(w, 0x30);
+}
+
+/* DQB = 0 leaves line 7 below 0 for every vertex. */
+static void rtpt_limited_loop(struct workload *w)
+{
+    fresh_with(w, 60, 0);
+    command_loop(w, 0x30);
+}
+
+/* V2 at a depth of 100, where H is 300. */
+static void rtpt_near_loop(struct workload *w)
+{
+    fresh_with(w, 5, (uint32_t)-400);
+    command_loop(w, 0x30);
+}
+
+static void rtps_loop(struct workload *w)
+{
+    fresh(w);
+    command_loop(w, 0x01);
 }
 
 /* ---- Timing -------------------------------------------------------------------- */
@@ -219,7 +251,10 @@ int main(int argc, char **argv)
     } workloads[] = {
         {"integer loop", integer_loop, 1000000, 1, 1, " steps"},
         {"one RTPT in 16", rtpt_in_16_loop, 1000000, 1, 1, " steps"},
-        {"RTPT alone", rtpt_loop, 200000, 1, (RTPT_LOOP_WORDS - 1.0) / RTPT_LOOP_WORDS, " RTPT"},
+        {"RTPT alone", rtpt_loop, 200000, 1, COMMANDS_A_STEP, " RTPT"},
+        {"RTPT, IR0 limited", rtpt_limited_loop, 200000, 1, COMMANDS_A_STEP, " RTPT"},
+        {"RTPT, one vertex too near", rtpt_near_loop, 200000, 1, COMMANDS_A_STEP, " RTPT"},
+        {"RTPS alone", rtps_loop, 200000, 1, COMMANDS_A_STEP, " RTPS"},
         {"calls of one step", integer_loop, 1, 20000, 1, " calls"},
         {"integer loop, calls of 1,000", integer_loop, 1000, 1000, 1, " steps"},
         {"integer loop, calls of 1,000,000", integer_loop, 1000000, 1, 1, " steps"},

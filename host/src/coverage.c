@@ -79,6 +79,13 @@ static const char *const quotient_names[QUOTIENT_KINDS] = {
     "1FFFFh with bit 17",
 };
 
+/* Which bits RTPS and RTPT left with sf = 1: the library has a way of its own where lines 1 to 6 set none. */
+enum { NO_BIT, LINE_7_ALONE, OTHER_BITS, BITS_LEFT };
+
+static const char *const perspective_names[2 * BITS_LEFT] = {
+    "RTPS, no bit", "RTPS, line 7 alone", "RTPS, other bits", "RTPT, no bit", "RTPT, line 7 alone", "RTPT, other bits",
+};
+
 static const char *const exception_names[13] = {[4] = "AdEL", [5] = "AdES", [6] = "IBE", [7] = "DBE", [8] = "Sys",
                                                 [9] = "Bp", [10] = "RI", [11] = "CpU", [12] = "Ovf"};
 
@@ -92,6 +99,7 @@ static uint64_t run_codes[MODEL_UNLISTED + 1], search_codes[MODEL_FLAG_UP + 1];
 static uint64_t load_events[LOAD_EVENTS];
 static uint64_t windows[WINDOW_KINDS];
 static uint64_t quotients[QUOTIENT_KINDS], table_entries[TABLE_ENTRIES];
+static uint64_t perspectives[2 * BITS_LEFT];
 
 static int find_index(uint32_t word)
 {
@@ -157,6 +165,15 @@ static void count_quotient(uint32_t h, uint32_t sz3)
     table_entries[(divisor - 0x7FC0) / 128]++;
 }
 
+/* Bits 16, 15 and 12 by themselves are line 7's: lines 5 and 6 set bit 14 or 13 with them. */
+static void count_perspective(uint32_t word, uint32_t flag)
+{
+    bool triple = (word & 0x3F) == 0x30;
+
+    if (word >> 19 & 1)
+        perspectives[triple * BITS_LEFT + (flag == 0 ? NO_BIT : flag & ~0x80019000u ? OTHER_BITS : LINE_7_ALONE)]++;
+}
+
 /* What became of a waiting load in this step. */
 static void count_load(const struct model *before, const struct model *after, enum model_outcome outcome, uint32_t word)
 {
@@ -213,6 +230,8 @@ static void count_step(const struct model *before, const struct model *after, en
         unsigned i, vertices = (word & 0x3F) == 0x01 ? 1 : (word & 0x3F) == 0x30 ? 3 : 0;
 
         count_command(word, after->cop2[63]);
+        if (vertices)
+            count_perspective(word, after->cop2[63]);
         for (i = 0; i < vertices; i++)
             count_quotient(before->cop2[58] & 0xFFFF, after->cop2[19 - i]);
     }
@@ -301,7 +320,7 @@ static void tally(struct tally *t, bool reached, const char *format, ...)
 enum {
     ALL_INSTRUCTIONS, ALL_COMMANDS, ALL_FORMS, ALL_MVMVA, BITS_SET, BITS_CLEAR, BITS_IMPOSSIBLE, OUTSIDE_SLOTS,
     IN_SLOTS, ALL_EVENTS, RUN_CODES, SEARCH_CODES, ALL_WINDOWS, ALL_QUOTIENTS,
-    ALL_ENTRIES, TALLIES
+    ALL_ENTRIES, ALL_PERSPECTIVES, TALLIES
 };
 
 static void tally_instructions(struct tally *t)
@@ -368,6 +387,7 @@ static void tally_all(struct tally t[TALLIES])
         [ALL_WINDOWS] = "kinds of windows",
         [ALL_QUOTIENTS] = "kinds of quotients",
         [ALL_ENTRIES] = "entries of the division's table",
+        [ALL_PERSPECTIVES] = "kinds of perspective commands",
     };
     unsigned i;
 
@@ -393,6 +413,8 @@ static void tally_all(struct tally t[TALLIES])
         tally(&t[ALL_QUOTIENTS], quotients[i] != 0, "%s", quotient_names[i]);
     for (i = 0; i < TABLE_ENTRIES; i++)
         tally(&t[ALL_ENTRIES], table_entries[i] != 0, "%u", i);
+    for (i = 0; i < 2 * BITS_LEFT; i++)
+        tally(&t[ALL_PERSPECTIVES], perspectives[i] != 0, "%s", perspective_names[i]);
 }
 
 const char *coverage_missing(void)
@@ -485,6 +507,7 @@ void coverage_print(void)
     print_codes("search", search_codes, MODEL_FLAG_UP);
     print_names("windows", window_names, windows, WINDOW_KINDS);
     print_names("quotients", quotient_names, quotients, QUOTIENT_KINDS);
+    print_names("perspective commands with sf 1", perspective_names, perspectives, 2 * BITS_LEFT);
     printf("reached:\n");
     tally_all(t);
     for (i = 0; i < TALLIES; i++)

@@ -1,3 +1,4 @@
 pub mod Apart
 pub mod Normal
+pub mod Quotients
 pub mod Table

@@ -1,10 +1,10 @@
 -- A number of 16 bits, shifted left by its leading zeros.
 use mathlib.Core.Path.{_≡_, subst}
-use Prim.Native.Nat.{ℕ, zero, suc, _+_, _*_, _^_, _≤_, _<_}
+use Prim.Native.Nat.{ℕ, zero, suc, _+_, _*_, _-_, _^_, _≤_, _<_}
 use native.Mathlib.Nat.{le-trans, le-of-eq, mul-le-mul-right}
 use native.Mathlib.Omega.{arith}
 use lib.Pow.{pow-add, shl-lt}
-use lib.Count.{leadingZeros, leading-top}
+use lib.Count.{leadingZeros, leading-top, leading-length, leading-unique}
 
 -- its top bit is then bit 15
 pub normal : (n : ℕ) → zero < n → n < 2 ^ 16 → (2 ^ 15 ≤ n * 2 ^ leadingZeros 16 n) × (n * 2 ^ leadingZeros 16 n < 2 ^ 16)
@@ -19,3 +19,13 @@ normal n p h =
           subst (λ (x : ℕ). 2 ^ x ≤ n * 2 ^ z) f (le-trans (le-of-eq (pow-add 2 k z)) (mul-le-mul-right (2 ^ z) lo)),
           subst (λ (x : ℕ). n * 2 ^ z < 2 ^ x) g (shl-lt {a = n} (suc k) z hi),
         )
+
+-- its leading zeros among 32 bits are 16 more
+pub counted-in-32 : (n : ℕ) → n < 2 ^ 16 → leadingZeros 16 n + 16 ≡ leadingZeros 32 n
+counted-in-32 n h =
+    let t = leading-length 16 n h in
+    let e = t .1 in
+    leading-unique 32 n (leadingZeros 16 n + 16) (t .0) (omega arith) (t .2) (t .3)
+
+pub zeros-16 : (n : ℕ) → n < 2 ^ 16 → leadingZeros 32 n - 16 ≡ leadingZeros 16 n
+zeros-16 n h = omega (arith, counted-in-32 n h)

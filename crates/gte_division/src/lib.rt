@@ -68,11 +68,13 @@ fn reciprocal(d: u32) -> u32
 }
 
 // The quotient below the overflow. Numerator and divisor are shifted so that the divisor's top bit is bit 15.
-fn ratio(h: u32, sz: u32) -> u32
+pub fn ratio(h: u32, sz: u32) -> u32
     requires { ⌜ (sz < 65536) × (h < 2 * sz) ⌝ }
     ensures is { λ r. ⌜ r ≡ quotient h sz ⌝ }
+    ensures small { λ r. ⌜ r < 2 ^ 17 ⌝ }
 {
-    let z = u16::leading_zeros(sz as u16);
+    // Counted in 32 bits: the count of 16 bits keeps the upper half of a register, and so waits for the division before.
+    let z = u32::leading_zeros(sz) - 16;
     let n = h << z;
     let d = sz << z;
     let q = ((n as u64) * (reciprocal(d) as u64) + 0x8000) / 0x1_0000;

@@ -1,12 +1,10 @@
 // One vertex projected.
 ghost use mathlib.Core.Path.{_≡_};
-ghost use mathlib.Core.Bool.{false};
+ghost use mathlib.Core.Bool.{true, false};
 ghost use Prim.Native.Nat.{_*_, _^_};
 ghost use Rattle.integers.specs.Parts.{Mag};
-ghost use Rattle.gte_arithmetic.specs.Checks.{or};
-ghost use Rattle.gte_arithmetic.specs.Values.{irRange, depthRange, limitFlag, macOf, irOf, depthOf, sumFlag};
 ghost use Rattle.gte_sums.specs.Sums.{Bounded};
-ghost use Rattle.gte_perspective.specs.Projection.{farOf, vertexOf};
+ghost use Rattle.gte_perspective.specs.Projection.{thirdOf, vertexOf, InFront};
 use crate::screen::to_screen;
 use gte_arithmetic::limits::limit_depth;
 use gte_arithmetic::limits::limit_ir;
@@ -33,7 +31,7 @@ struct Third {
 // Lines 3 and 4, with each of their tests. IR3 sets no flag of its own: bits 22 and 18 test the 44-bit sum shifted by 12.
 fn third_line_tested(x: i64, sf: bool) -> Third
     requires { ⌜ Mag x (3 * 2 ^ 43) ⌝ }
-    ensures { λ r. ⌜ r ≡ record { mac = macOf sf x; ir = irOf false (macOf sf x); sz = depthOf (farOf x); flag = or (sumFlag 0x1000_0000 0x200_0000 x) (or (limitFlag (irRange false) (farOf x) 0x40_0000) (limitFlag depthRange (farOf x) 0x4_0000)) } ⌝ }
+    ensures { λ r. ⌜ r ≡ thirdOf sf x ⌝ }
 {
     let w = wrap_44(x, 0x1000_0000, 0x200_0000);
     let z = shift_12(w.v);
@@ -52,7 +50,7 @@ fn third_line_tested(x: i64, sf: bool) -> Third
 // Lines 3 and 4. With sf = 1 a depth that IR3 can hold is MAC3, IR3 and SZ3, and sets no bit.
 fn third_line(x: i64, sf: bool) -> Third
     requires { ⌜ Mag x (3 * 2 ^ 43) ⌝ }
-    ensures { λ r. ⌜ r ≡ record { mac = macOf sf x; ir = irOf false (macOf sf x); sz = depthOf (farOf x); flag = or (sumFlag 0x1000_0000 0x200_0000 x) (or (limitFlag (irRange false) (farOf x) 0x40_0000) (limitFlag depthRange (farOf x) 0x4_0000)) } ⌝ }
+    ensures { λ r. ⌜ r ≡ thirdOf sf x ⌝ }
 {
     if sf {
         let z = shift_12(x);
@@ -95,5 +93,46 @@ pub fn project(s: Wide, k: Camera, sf: bool) -> Vertex
         sz: c.sz,
         xy: p.xy,
         flag: a.flag | (b.flag | (c.flag | p.flag)),
+    }
+}
+
+// Lines 1 to 4 with sf = 1 where they set no bit and the quotient does not overflow: x, y and z are then MAC1..3 and IR1..3, and
+// sz is SZ3.
+pub struct Front {
+    pub clear: bool,
+    pub x: i16,
+    pub y: i16,
+    pub z: i16,
+    pub sz: u32,
+}
+
+// One test for each value of lines 1 to 4, and line 5's of the quotient. The order keeps the compiler from joining two of them.
+pub fn in_front(s: Wide, h: u32) -> Front
+    ensures { λ r. ⌜ (r .clear ≡ true → InFront s h r) ⌝ }
+{
+    let x = shift_12(s.x);
+    if within(-0x8000, 0x7fff, x) {
+        let depth = shift_12(s.z);
+        if within(0, 0x7fff, depth) {
+            let y = shift_12(s.y);
+            if within(-0x8000, 0x7fff, y) {
+                if h < 2 * (depth as u32) {
+                    return Front {
+                        clear: true,
+                        x: x as i16,
+                        y: y as i16,
+                        z: depth as i16,
+                        sz: depth as u32,
+                    };
+                }
+            }
+        }
+    }
+    Front {
+        clear: false,
+        x: 0,
+        y: 0,
+        z: 0,
+        sz: 0,
     }
 }

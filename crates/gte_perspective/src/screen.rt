@@ -1,11 +1,9 @@
 // Lines 5 to 7 of one vertex: from the depth and two IR to the screen.
 ghost use mathlib.Core.Path.{_≡_};
+ghost use mathlib.Core.Bool.{true};
 ghost use Prim.Native.Nat.{_*_, _^_, _<_};
-ghost use lib.Signed.{shrZ};
-ghost use Rattle.integers.specs.Wrap.{wrap};
-ghost use Rattle.gte_arithmetic.specs.Checks.{or};
-ghost use Rattle.gte_arithmetic.specs.Values.{screenRange, factorRange, limitFlag, screenOf, factorOf, mac0Flag};
-ghost use Rattle.gte_perspective.specs.Perspective.{exactOf, pairOf, onScreen};
+ghost use Rattle.gte_perspective.specs.Perspective.{exactOf, pairOf, coordinateOf, cueOf, cueAt, lastCue, onScreen, Shown};
+use crate::projection::Front;
 use gte_arithmetic::limits::Short;
 use gte_arithmetic::limits::limit_factor;
 use gte_arithmetic::limits::limit_screen;
@@ -26,7 +24,7 @@ pub struct Screen {
 }
 
 // What line 7 gives.
-struct Factor {
+pub struct Factor {
     pub mac0: i32,
     pub ir0: u32,
     pub flag: u32,
@@ -49,7 +47,7 @@ fn exact(q: u32, k: i16, b: i32) -> i64
 
 // Line 5 or 6, with each of its tests: MAC0 is tested, and the coordinate limited from its exact value.
 fn coordinate_tested(x: i64, bit: u32) -> Short
-    ensures { λ r. ⌜ r ≡ record { v = screenOf (shrZ x 65536); flag = or (mac0Flag x) (limitFlag screenRange (shrZ x 65536) bit) } ⌝ }
+    ensures { λ r. ⌜ r ≡ coordinateOf x bit ⌝ }
 {
     let m = store_mac0(x);
     let s = limit_screen(shift_16(x), bit);
@@ -62,7 +60,7 @@ fn coordinate_tested(x: i64, bit: u32) -> Short
 // Line 5 or 6. Most points lie on the screen, where one test finds that no bit is set.
 fn coordinate(q: u32, ir: i16, offset: i32, bit: u32) -> Short
     requires { ⌜ q < 2 ^ 17 ⌝ }
-    ensures { λ r. ⌜ r ≡ record { v = screenOf (shrZ (exactOf q ir offset) 65536); flag = or (mac0Flag (exactOf q ir offset)) (limitFlag screenRange (shrZ (exactOf q ir offset) 65536) bit) } ⌝ }
+    ensures { λ r. ⌜ r ≡ coordinateOf (exactOf q ir offset) bit ⌝ }
 {
     let x = exact(q, ir, offset);
     let s = shift_16(x);
@@ -77,7 +75,7 @@ fn coordinate(q: u32, ir: i16, offset: i32, bit: u32) -> Short
 
 // Line 7, with each of its tests: the MAC0 that stays, and IR0.
 fn cue_factor_tested(x: i64) -> Factor
-    ensures { λ r. ⌜ r ≡ record { mac0 = wrap (2 ^ 31) x; ir0 = factorOf (shrZ x 4096); flag = or (mac0Flag x) (limitFlag factorRange (shrZ x 4096) 0x1000) } ⌝ }
+    ensures { λ r. ⌜ r ≡ cueOf x ⌝ }
 {
     let m = store_mac0(x);
     let f = limit_factor(shift_12(x));
@@ -91,7 +89,7 @@ fn cue_factor_tested(x: i64) -> Factor
 // Line 7. An IR0 in range comes from a MAC0 that needs no test.
 fn cue_factor(q: u32, dqa: i16, dqb: i32) -> Factor
     requires { ⌜ q < 2 ^ 17 ⌝ }
-    ensures { λ r. ⌜ r ≡ record { mac0 = wrap (2 ^ 31) (exactOf q dqa dqb); ir0 = factorOf (shrZ (exactOf q dqa dqb) 4096); flag = or (mac0Flag (exactOf q dqa dqb)) (limitFlag factorRange (shrZ (exactOf q dqa dqb) 4096) 0x1000) } ⌝ }
+    ensures { λ r. ⌜ r ≡ cueOf (exactOf q dqa dqb) ⌝ }
 {
     let x = exact(q, dqa, dqb);
     let f = shift_12(x);
@@ -113,11 +111,85 @@ pub fn to_screen(k: Camera, sz: u32, ir1: i16, ir2: i16) -> Screen
     let q = divide(k.h, sz);
     let x = coordinate(q.v, ir1, k.ofx, 0x4000);
     let y = coordinate(q.v, ir2, k.ofy, 0x2000);
-    let d = cue_factor(q.v, k.dqa, k.dqb);
+    let d = cue_at(q.v, k);
     Screen {
         mac0: d.mac0,
         xy: pair(x.v, y.v),
         ir0: d.ir0,
         flag: q.flag | (x.flag | (y.flag | d.flag)),
+    }
+}
+
+// Lines 5 and 6 where they set no bit: SX and SY in one word.
+pub struct Point {
+    pub clear: bool,
+    pub xy: u32,
+}
+
+// One test for each coordinate.
+pub fn on_screen(q: u32, k: Camera, f: Front) -> Point
+    requires { ⌜ q < 2 ^ 17 ⌝ }
+    ensures { λ r. ⌜ (r .clear ≡ true → Shown q k (f .x) (f .y) (r .xy)) ⌝ }
+{
+    let x = shift_16(exact(q, f.x, k.ofx));
+    if within(-0x400, 0x3ff, x) {
+        let y = shift_16(exact(q, f.y, k.ofy));
+        if within(-0x400, 0x3ff, y) {
+            return Point {
+                clear: true,
+                xy: pair(x as i16, y as i16),
+            };
+        }
+    }
+    Point {
+        clear: false,
+        xy: 0,
+    }
+}
+
+// Line 7 sets no bit.
+fn cue_clear(q: u32, k: Camera) -> bool
+    requires { ⌜ q < 2 ^ 17 ⌝ }
+    ensures { λ r. ⌜ (r ≡ true → cueAt q k .flag ≡ 0) ⌝ }
+{
+    within(0, 0x1000, shift_12(exact(q, k.dqa, k.dqb)))
+}
+
+// Line 7 of two vertices.
+fn both_clear(p: u32, q: u32, k: Camera) -> bool
+    requires { ⌜ (p < 2 ^ 17) × (q < 2 ^ 17) ⌝ }
+    ensures { λ r. ⌜ (r ≡ true → (cueAt p k .flag ≡ 0) × (cueAt q k .flag ≡ 0)) ⌝ }
+{
+    if cue_clear(p, k) {
+        cue_clear(q, k)
+    } else {
+        false
+    }
+}
+
+// Line 7 from the camera.
+pub fn cue_at(q: u32, k: Camera) -> Factor
+    requires { ⌜ q < 2 ^ 17 ⌝ }
+    ensures { λ r. ⌜ r ≡ cueAt q k ⌝ }
+{
+    cue_factor(q, k.dqa, k.dqb)
+}
+
+// Line 7 of three vertices: what the last one leaves, and the flags of all.
+pub fn cue_factors(p: u32, q: u32, r: u32, k: Camera) -> Factor
+    requires { ⌜ (p < 2 ^ 17) × (q < 2 ^ 17) × (r < 2 ^ 17) ⌝ }
+    ensures { λ d. ⌜ d ≡ lastCue (cueAt p k) (cueAt q k) (cueAt r k) ⌝ }
+{
+    let d = cue_at(r, k);
+    if both_clear(p, q, k) {
+        d
+    } else {
+        let a = cue_at(p, k);
+        let b = cue_at(q, k);
+        Factor {
+            mac0: d.mac0,
+            ir0: d.ir0,
+            flag: a.flag | (b.flag | d.flag),
+        }
     }
 }

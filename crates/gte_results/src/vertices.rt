@@ -1,7 +1,7 @@
 // What RTPS and RTPT write to the 64 words.
 ghost use mathlib.Core.Path.{_≡_};
 ghost use Rattle.gte_registers.specs.Registers.{view, reads};
-ghost use Rattle.gte_results.specs.VertexEffects.{pushedZ, pushedVertex, vertexKept, vertexLeft, verticesLeft};
+ghost use Rattle.gte_results.specs.VertexEffects.{pushedZ, pushedVertex, vertexKept, vertexLeft};
 use crate::lines::store;
 use gte_arithmetic::values::Vertex;
 use gte_registers::reads::sized;
@@ -49,13 +49,13 @@ pub fn leave_vertex(c: &mut [u32; 64], v: Vertex)
     keep_vertex(c, v, v.flag);
 }
 
-// The same after RTPT: three vertices pushed, MAC and IR of the last, the flags of all three.
-pub fn leave_vertices(c: &mut [u32; 64], p: Vertex, q: Vertex, r: Vertex)
-    ensures { λ _. ⌜ view (now (c .exit)) ≡ reads (verticesLeft p q r (view (now (c .entry)))) ⌝ }
+// The same after RTPT: three vertices pushed, MAC and IR of the last, and the flags of all three, which the caller gives.
+pub fn leave_vertices(c: &mut [u32; 64], p: Vertex, q: Vertex, r: Vertex, flag: u32)
+    ensures { λ _. ⌜ view (now (c .exit)) ≡ reads (vertexKept r flag (pushedVertex r (pushedVertex q (pushedVertex p (view (now (c .entry))))))) ⌝ }
 {
     sized(c);
     push_vertex(c, p);
     push_vertex(c, q);
     push_vertex(c, r);
-    keep_vertex(c, r, p.flag | (q.flag | r.flag));
+    keep_vertex(c, r, flag);
 }

@@ -3,31 +3,17 @@ use borrow.Author.Needs.{needs}
 use borrow.Author.Tests.{not-true}
 use mathlib.Core.Path.{_≡_, sym, _∙_}
 use mathlib.Core.Bool.{true, false}
-use Prim.Native.Nat.{ℕ}
-use lib.Dec.{lit≤}
-use lib.IntN.{ℤ, pos, negsuc}
+use lib.IntN.{pos, negsuc}
 use lib.Signed.{shrZ}
 use mir.Syntax.{w16, w64}
 use mir.Val.{SFits}
 use mir.Facts.{toZ-ofZ}
-use Rattle.integers.specs.Bound.{back, fit, mag-le, mag-pos, mag-negsuc, mag-between}
-use Rattle.integers.specs.Clamp.{outside, inside, clamp-clear}
-use Rattle.integers.specs.Parts.{Mag}
-use Rattle.gte_arithmetic.specs.Checks.{or, raise}
-use Rattle.gte_arithmetic.specs.Values.{screenOf, mac0Flag}
-use Rattle.gte_arithmetic.specs.declared.limits.Short.{Short}
-use Rattle.gte_arithmetic.proofs.Flags.{or-none}
-use Rattle.gte_line.proofs.Plain.{by-65536, mac0-none}
+use Rattle.integers.specs.Bound.{back, fit}
+use Rattle.integers.specs.Clamp.{outside}
 use Rattle.gte_perspective.specs.Perspective.{exactOf}
+use Rattle.gte_perspective.proofs.Plain.{screen-mag, coordinate-plain}
 use Rattle.gte_perspective.proofs.screen.coordinate.Statement.{statement}
 use Rattle.gte_perspective.proofs.screen.coordinate.Tie as tie
-
-near : (z : ℤ) → outside (negsuc 0x3ff) (pos 0x3ff) z ≡ false → Mag z 1024
-near z e = let k = inside (negsuc 0x3ff) (pos 0x3ff) z e in mag-between z (mag-negsuc 0x3ff) (mag-pos 0x3ff) (k .0) (k .1)
-
-plain : (bit : ℕ) (x : ℤ) → outside (negsuc 0x3ff) (pos 0x3ff) (shrZ x 65536) ≡ false → _≡_ {A = Short} (record { v = shrZ x 65536; flag = 0 }) (record { v = screenOf (shrZ x 65536); flag = or (mac0Flag x) (raise (outside (negsuc 0x3ff) (pos 0x3ff) (shrZ x 65536)) bit) })
-unfolding screenOf
-plain bit x e = rw (clamp-clear (negsuc 0x3ff) (pos 0x3ff) (shrZ x 65536) e, mac0-none x (mag-le (by-65536 x (near _ e)) (lit≤ tt)), e, or-none 0)
 
 is-x : (c : tie.After-exact) → let a = c .before .args in c .exact .result ≡ exactOf (a .q) (a .ir) (a .offset)
 is-x c = rw (toZ-ofZ (c .before .fits .ir), toZ-ofZ (c .before .fits .offset)) at (c .exact .ensures)
@@ -39,7 +25,7 @@ clear : (c : tie.After-within) → c .within .result ≡ true → let a = c .bef
 clear c e = not-true _ (sym (rw (back w64 (c .before .shift-16 .result) (c .before .shift-16 .ok), is-s (c .before)) at (c .within .ensures)) ∙ e)
 
 short : (c : tie.After-within) → c .within .result ≡ true → SFits w16 (c .before .shift-16 .result)
-short c e = rw (is-s (c .before)) (fit w16 (near _ (clear c e)) tt)
+short c e = rw (is-s (c .before)) (fit w16 (screen-mag _ (clear c e)) tt)
 
 cast : tie.Need-cast-t8
 cast c = rw (back w64 (c .before .before .shift-16 .result) (c .before .before .shift-16 .ok)) (short (c .before) (c .if1 .taken))
@@ -47,7 +33,7 @@ cast c = rw (back w64 (c .before .before .shift-16 .result) (c .before .before .
 returns : tie.Need-returns
 returns c =
     rw (back w64 (c .before .before .shift-16 .result) (c .before .before .shift-16 .ok), toZ-ofZ (short (c .before) (c .if1 .taken)), is-s (c .before .before))
-    (plain (c .before .before .before .before .args .bit) _ (clear (c .before) (c .if1 .taken)))
+    (coordinate-plain (c .before .before .before .before .args .bit) _ (clear (c .before) (c .if1 .taken)))
 
 pub coordinate-spec : {M : Type 1} → statement M
 coordinate-spec =

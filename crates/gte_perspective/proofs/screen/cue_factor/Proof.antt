@@ -3,42 +3,18 @@ use borrow.Author.Needs.{needs}
 use borrow.Author.Tests.{not-true}
 use mathlib.Core.Path.{_≡_, sym, _∙_}
 use mathlib.Core.Bool.{true, false}
-use Prim.Native.Nat.{_^_}
-use lib.Dec.{T, lit≤}
-use lib.IntN.{ℤ, pos, natAbs}
-use lib.Signed.{nonNeg, shrZ}
+use lib.IntN.{pos}
+use lib.Signed.{shrZ}
 use mir.Syntax.{w32, w64}
-use mir.Val.{Fits, SFits}
+use mir.Val.{SFits}
 use mir.Facts.{toZ-ofZ}
-use Rattle.integers.specs.Bits.{unsign}
-use Rattle.integers.specs.Bound.{back, fit, mag-le, mag-pos, mag-between}
-use Rattle.integers.specs.Clamp.{outside, inside, clamp-clear}
-use Rattle.integers.specs.Parts.{posPart, negPart, zarith, Mag}
-use Rattle.integers.specs.Wrap.{wrap, wrap-fits}
-use Rattle.gte_arithmetic.specs.Checks.{or, raise}
-use Rattle.gte_arithmetic.specs.Values.{factorOf, mac0Flag}
-use Rattle.gte_arithmetic.proofs.Flags.{or-none}
-use Rattle.gte_line.proofs.Plain.{by-4096, mac0-none}
+use Rattle.integers.specs.Bound.{back, fit}
+use Rattle.integers.specs.Clamp.{outside}
+use Rattle.gte_line.proofs.Plain.{by-4096}
 use Rattle.gte_perspective.specs.Perspective.{exactOf}
-use Rattle.gte_perspective.specs.declared.screen.Factor.{Factor}
+use Rattle.gte_perspective.proofs.Plain.{factor-mag, factor-unsigned, cue-plain}
 use Rattle.gte_perspective.proofs.screen.cue_factor.Statement.{statement}
 use Rattle.gte_perspective.proofs.screen.cue_factor.Tie as tie
-
-near : (z : ℤ) → outside (pos 0) (pos 0x1000) z ≡ false → Mag z 32768
-near z e = let k = inside (pos 0) (pos 0x1000) z e in mag-between z (mag-le (mag-pos 0) (lit≤ tt)) (mag-le (mag-pos 0x1000) (lit≤ tt)) (k .0) (k .1)
-
-unsigned : (z : ℤ) → outside (pos 0) (pos 0x1000) z ≡ false → T (nonNeg z) × Fits w32 (natAbs z)
-unfolding posPart negPart
-unsigned z e =
-    let k = inside (pos 0) (pos 0x1000) z e in
-    let u = k .1 in
-    unsign w32 z (k .0) (omega zarith)
-
-plain : (x : ℤ) → outside (pos 0) (pos 0x1000) (shrZ x 4096) ≡ false → _≡_ {A = Factor} (record { mac0 = x; ir0 = natAbs (shrZ x 4096); flag = 0 }) (record { mac0 = wrap (2 ^ 31) x; ir0 = factorOf (shrZ x 4096); flag = or (mac0Flag x) (raise (outside (pos 0) (pos 0x1000) (shrZ x 4096)) 0x1000) })
-unfolding factorOf
-plain x e =
-    let m = by-4096 x (near _ e) in
-    rw (wrap-fits (2 ^ 31) (mag-le m (lit≤ tt)), clamp-clear (pos 0) (pos 0x1000) (shrZ x 4096) e, mac0-none x m, e, or-none 0)
 
 is-x : (c : tie.After-exact) → let a = c .before .args in c .exact .result ≡ exactOf (a .q) (a .dqa) (a .dqb)
 is-x c = rw (toZ-ofZ (c .before .fits .dqa), toZ-ofZ (c .before .fits .dqb)) at (c .exact .ensures)
@@ -50,7 +26,7 @@ clear : (c : tie.After-within) → c .within .result ≡ true → let a = c .bef
 clear c e = not-true _ (sym (rw (back w64 (c .before .shift-12 .result) (c .before .shift-12 .ok), is-f (c .before)) at (c .within .ensures)) ∙ e)
 
 word : (c : tie.After-within) → c .within .result ≡ true → SFits w32 (c .before .before .exact .result)
-word c e = rw (is-x (c .before .before)) (fit w32 (by-4096 _ (near _ (clear c e))) tt)
+word c e = rw (is-x (c .before .before)) (fit w32 (by-4096 _ (factor-mag _ (clear c e))) tt)
 
 cast-mac : tie.Need-cast-t7
 cast-mac c = rw (back w64 (c .before .before .before .exact .result) (c .before .before .before .exact .ok)) (word (c .before) (c .if1 .taken))
@@ -58,7 +34,7 @@ cast-mac c = rw (back w64 (c .before .before .before .exact .result) (c .before 
 cast-ir : tie.Need-cast-t8
 cast-ir c =
     let a = c .before .before .before .before .args in
-    rw (back w64 (c .before .before .shift-12 .result) (c .before .before .shift-12 .ok), is-f (c .before .before)) (unsigned (shrZ (exactOf (a .q) (a .dqa) (a .dqb)) 4096) (clear (c .before) (c .if1 .taken)))
+    rw (back w64 (c .before .before .shift-12 .result) (c .before .before .shift-12 .ok), is-f (c .before .before)) (factor-unsigned (shrZ (exactOf (a .q) (a .dqa) (a .dqb)) 4096) (clear (c .before) (c .if1 .taken)))
 
 returns : tie.Need-returns
 returns c =
@@ -68,7 +44,7 @@ returns c =
       back w64 (c .before .before .shift-12 .result) (c .before .before .shift-12 .ok),
       is-f (c .before .before),
       is-x (c .before .before .before),
-    ) (plain _ (clear (c .before) (c .if1 .taken)))
+    ) (cue-plain _ (clear (c .before) (c .if1 .taken)))
 
 pub cue-factor-spec : {M : Type 1} → statement M
 cue-factor-spec =
