@@ -13,7 +13,7 @@ use Rattle.gte_arithmetic.specs.Values.{depthOf, sumFlag, mac0Flag}
 use Rattle.gte_arithmetic.specs.declared.values.Camera.{Camera}
 use Rattle.gte_arithmetic.specs.declared.values.Vertex.{Vertex}
 use Rattle.gte_arithmetic.specs.declared.values.Wide.{Wide}
-use Rattle.gte_arithmetic.proofs.Flags.{or-assoc, or-none, none-or}
+use Rattle.gte_arithmetic.proofs.Flags.{or-assoc, or-none}
 use Rattle.gte_division.specs.Division.{quotient, ratioOf}
 use Rattle.gte_division.proofs.Quotients.{ratio-below}
 use Rattle.gte_inputs.specs.Inputs.{Inputs}
@@ -66,6 +66,7 @@ vertex-joined sf s k = simp or-assoc
 pub seen-vertex : (i : Inputs) (n : ℕ) (s : Wide) (k : Camera) (f : Front) (q xy : ℕ)
     → s ≡ rotated i n → k ≡ i .camera → q ≡ quotient (k .h) (f .sz) → InFront s (k .h) f → Shown q k (f .x) (f .y) xy
     → vertexAt true i n ≡ plainOf f xy (cueAt q k)
+unfolding or
 seen-vertex i n s k f q xy es ek eq a p =
     let third = a .third in
     rw (← es, ← ek)
@@ -84,12 +85,6 @@ seen-vertex i n s k f q xy es ek eq a p =
       p .first,
       p .second,
       ← p .place,
-      none-or,
-      none-or,
-      none-or,
-      none-or,
-      none-or,
-      none-or,
     ))
 
 -- what the division asks

@@ -106,17 +106,17 @@ pub struct Front {
     pub sz: u32,
 }
 
-// One test for each value of lines 1 to 4, and line 5's of the quotient. The order keeps the compiler from joining two of them.
+// One test for each value: the depth and line 5's of the quotient first, since most vertices that set a bit are too near or behind.
 pub fn in_front(s: Wide, h: u32) -> Front
     ensures { λ r. ⌜ (r .clear ≡ true → InFront s h r) ⌝ }
 {
-    let x = shift_12(s.x);
-    if within(-0x8000, 0x7fff, x) {
-        let depth = shift_12(s.z);
-        if within(0, 0x7fff, depth) {
-            let y = shift_12(s.y);
-            if within(-0x8000, 0x7fff, y) {
-                if h < 2 * (depth as u32) {
+    let depth = shift_12(s.z);
+    if within(0, 0x7fff, depth) {
+        if h < 2 * (depth as u32) {
+            let x = shift_12(s.x);
+            if within(-0x8000, 0x7fff, x) {
+                let y = shift_12(s.y);
+                if within(-0x8000, 0x7fff, y) {
                     return Front {
                         clear: true,
                         x: x as i16,

@@ -3,12 +3,12 @@ use borrow.Author.Needs.{needs}
 use mir.Syntax.{w32}
 use Rattle.integers.specs.Bound.{back}
 use Rattle.gte_arithmetic.specs.Checks.{or}
-use Rattle.gte_arithmetic.proofs.Flags.{none-or}
 use Rattle.gte_perspective.proofs.screen.cue_factors.Statement.{statement}
 use Rattle.gte_perspective.proofs.screen.cue_factors.Tie as tie
 
 returns : tie.Need-returns
-returns c = let t = c .before .both-clear .ensures (c .if1 .taken) in rw (c .before .before .cue-at .ensures, t .0, t .1, none-or, none-or)
+unfolding or
+returns c = let t = c .before .both-clear .ensures (c .if1 .taken) in rw (c .before .before .cue-at .ensures, t .0, t .1)
 
 returns-2 : tie.Need-returns-2
 unfolding or

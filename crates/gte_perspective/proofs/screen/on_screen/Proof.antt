@@ -3,7 +3,6 @@ use borrow.Author.Needs.{needs}
 use borrow.Author.Tests.{not-true}
 use mathlib.Core.Path.{_≡_, sym, ap, _∙_}
 use mathlib.Core.Bool.{true, false}
-use Prim.Native.Nat.{ℕ}
 use lib.IntN.{pos, negsuc}
 use lib.Signed.{shrZ}
 use mir.Syntax.{w16, w32, w64}
@@ -12,7 +11,7 @@ use mir.Facts.{toZ-ofZ}
 use Rattle.integers.specs.Bound.{back, fit}
 use Rattle.integers.specs.Clamp.{outside}
 use Rattle.gte_arithmetic.specs.declared.limits.Short.{Short}
-use Rattle.gte_perspective.specs.Perspective.{exactOf, pairOf, coordinateOf, Shown}
+use Rattle.gte_perspective.specs.Perspective.{exactOf, pairOf}
 use Rattle.gte_perspective.proofs.Plain.{never, screen-mag, coordinate-plain}
 use Rattle.gte_perspective.proofs.screen.on_screen.Statement.{statement}
 use Rattle.gte_perspective.proofs.screen.on_screen.Tie as tie

@@ -1,5 +1,4 @@
 -- Sixteen bits are widened to MAC1..3.
-use borrow.Author.Needs.{needs}
 use Prim.Native.Nat.{_^_, _<_}
 use lib.IntN.{ℤ}
 use lib.Signed.{mag}

@@ -2,12 +2,11 @@
 use borrow.Author.Needs.{needs}
 use borrow.Author.Tests.{not-false}
 use mathlib.Core.Path.{_≡_, ap}
-use mathlib.Core.Bool.{true, false}
+use mathlib.Core.Bool.{true}
 use Rattle.gte_inputs.specs.Inputs.{inputsOf}
 use Rattle.gte_inputs.proofs.Views.{inputs-view}
 use Rattle.gte_registers.specs.Registers.{reads}
 use Rattle.gte_perspective.specs.Perspective.{cueAt}
-use Rattle.gte_perspective.specs.Projection.{InFront}
 use Rattle.gte_perspective.specs.Vertices.{rotated, vertexAt, plainOf}
 use Rattle.gte_perspective.proofs.Joined.{seen-vertex, front-divides, three-left}
 use Rattle.gte_perspective.proofs.vertices.seen.Statement.{statement}
