@@ -239,6 +239,54 @@ static void projection_recipe(struct random *r, uint32_t *c)
     }
 }
 
+/* -bound..bound */
+static int32_t around_zero(struct random *r, uint32_t bound)
+{
+    return (int32_t)below(r, 2 * bound + 1) - (int32_t)bound;
+}
+
+static uint32_t halves(int32_t low, int32_t high)
+{
+    return ((uint32_t)low & 0xFFFF) | (uint32_t)high << 16;
+}
+
+/*
+ * A scene as a game has it: a camera turned a little, three vertices in sight
+ * and, half the time, one of them moved to an edge. Most commands then set no
+ * bit, or those of line 7 alone.
+ */
+static void scene_recipe(struct random *r, uint32_t *c)
+{
+    int32_t depth = 600 + (int32_t)below(r, 20000), h = 100 + (int32_t)below(r, 400);
+    uint32_t i, moved = 2 * below(r, 3);
+
+    c[32] = halves(0x1000, around_zero(r, 0x100));
+    c[33] = halves(around_zero(r, 0x100), around_zero(r, 0x100));
+    c[34] = halves(0x1000, around_zero(r, 0x100));
+    c[35] = halves(around_zero(r, 0x100), around_zero(r, 0x100));
+    c[36] = 0x1000;
+    c[37] = (uint32_t)around_zero(r, 200);
+    c[38] = (uint32_t)around_zero(r, 200);
+    c[39] = (uint32_t)depth;
+    for (i = 0; i < 6; i += 2) {
+        c[i] = halves(around_zero(r, 250), around_zero(r, 250));
+        c[i + 1] = (uint32_t)around_zero(r, 250);
+    }
+    c[56] = 160 << 16 | below(r, 0x10000);
+    c[57] = 120 << 16 | below(r, 0x10000);
+    c[58] = (uint32_t)h;
+    c[59] = (uint32_t)around_zero(r, chance(r, 50) ? 8 : 0x1000);
+    c[60] = below(r, 0x1001000);
+    if (chance(r, 50))
+        switch (below(r, 5)) {
+        case 0: c[moved + 1] = (uint32_t)(h / 2 - depth + around_zero(r, 60)); break; /* too near, or just not */
+        case 1: c[moved + 1] = (uint32_t)(0x7FFF - depth + around_zero(r, 60)); break; /* as far as IR3 reaches */
+        case 2: c[moved] = halves(chance(r, 50) ? 0x7FFF : -0x8000, around_zero(r, 250)); break;
+        case 3: c[moved] = halves(around_zero(r, 250), chance(r, 50) ? 0x7FFF : -0x8000); break;
+        default: c[56 + below(r, 2)] = (900 + below(r, 250)) << 16; break; /* near the screen's end */
+        }
+}
+
 /* Sums at -2^43 and 2^43-1: a translation of 32 bits and one product, the rest zero. */
 static void wide_sum_recipe(struct random *r, uint32_t *c)
 {
@@ -331,10 +379,11 @@ static uint32_t random_cop2(struct random *r, uint32_t *c)
     case 4: case 5: wide_sum_recipe(r, c); break;
     case 6: colour_recipe(r, c); break;
     case 7: depth_and_clip_recipe(r, c); break;
+    case 8: scene_recipe(r, c); break;
     default: break;
     }
     make_cop2_well_formed(c);
-    return style == 2 || style == 3 ? PICK(r, projecting) : style == 7 ? PICK(r, averaging) : 0x12;
+    return style == 2 || style == 3 || style == 8 ? PICK(r, projecting) : style == 7 ? PICK(r, averaging) : 0x12;
 }
 
 /* ---- Instructions ------------------------------------------------------------ */

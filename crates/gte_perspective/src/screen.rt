@@ -87,11 +87,11 @@ fn cue_factor_tested(x: i64) -> Factor
 }
 
 // Line 7. An IR0 in range comes from a MAC0 that needs no test.
-fn cue_factor(q: u32, dqa: i16, dqb: i32) -> Factor
+pub fn cue_factor(q: u32, k: Camera) -> Factor
     requires { ⌜ q < 2 ^ 17 ⌝ }
-    ensures { λ r. ⌜ r ≡ cueOf (exactOf q dqa dqb) ⌝ }
+    ensures { λ r. ⌜ r ≡ cueAt q k ⌝ }
 {
-    let x = exact(q, dqa, dqb);
+    let x = exact(q, k.dqa, k.dqb);
     let f = shift_12(x);
     if within(0, 0x1000, f) {
         return Factor {
@@ -111,7 +111,7 @@ pub fn to_screen(k: Camera, sz: u32, ir1: i16, ir2: i16) -> Screen
     let q = divide(k.h, sz);
     let x = coordinate(q.v, ir1, k.ofx, 0x4000);
     let y = coordinate(q.v, ir2, k.ofy, 0x2000);
-    let d = cue_at(q.v, k);
+    let d = cue_factor(q.v, k);
     Screen {
         mac0: d.mac0,
         xy: pair(x.v, y.v),
@@ -167,25 +167,17 @@ fn both_clear(p: u32, q: u32, k: Camera) -> bool
     }
 }
 
-// Line 7 from the camera.
-pub fn cue_at(q: u32, k: Camera) -> Factor
-    requires { ⌜ q < 2 ^ 17 ⌝ }
-    ensures { λ r. ⌜ r ≡ cueAt q k ⌝ }
-{
-    cue_factor(q, k.dqa, k.dqb)
-}
-
 // Line 7 of three vertices: what the last one leaves, and the flags of all.
 pub fn cue_factors(p: u32, q: u32, r: u32, k: Camera) -> Factor
     requires { ⌜ (p < 2 ^ 17) × (q < 2 ^ 17) × (r < 2 ^ 17) ⌝ }
     ensures { λ d. ⌜ d ≡ lastCue (cueAt p k) (cueAt q k) (cueAt r k) ⌝ }
 {
-    let d = cue_at(r, k);
+    let d = cue_factor(r, k);
     if both_clear(p, q, k) {
         d
     } else {
-        let a = cue_at(p, k);
-        let b = cue_at(q, k);
+        let a = cue_factor(p, k);
+        let b = cue_factor(q, k);
         Factor {
             mac0: d.mac0,
             ir0: d.ir0,

@@ -10,7 +10,7 @@ use crate::projection::Front;
 use crate::projection::in_front;
 use crate::projection::project;
 use crate::screen::Factor;
-use crate::screen::cue_at;
+use crate::screen::cue_factor;
 use crate::screen::cue_factors;
 use crate::screen::on_screen;
 use gte_arithmetic::values::Long;
@@ -109,7 +109,7 @@ fn seen(c: &mut [u32; 64], three: bool) -> bool
         if !p.clear {
             return false;
         }
-        leave_vertex(c, plain(f0, p.xy, cue_at(q, k)));
+        leave_vertex(c, plain(f0, p.xy, cue_factor(q, k)));
     }
     true
 }

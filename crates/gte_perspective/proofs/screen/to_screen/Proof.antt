@@ -17,8 +17,8 @@ is-x c = rw (toZ-ofZ (c .before .before .before .fits .ir1), back w32 (c .before
 is-y : (c : tie.After-coordinate2) → let a = c .before .before .before .before .before .args in c .coordinate2 .result ≡ coordinateOf (exactOf (ratioOf (a .k .h) (a .sz)) (a .ir2) (a .k .ofy)) 0x2000
 is-y c = rw (toZ-ofZ (c .before .before .before .before .before .fits .ir2), back w32 (c .before .before .before .before .before .args .k .ofy) (c .before .struct-told2 .given .1 .1 .0 .1), c .before .before .before .before .divide .ensures .0) at (c .coordinate2 .ensures)
 
-is-d : (c : tie.After-cue-at) → c .cue-at .result ≡ cueAt (ratioOf (c .before .before .before .before .before .before .args .k .h) (c .before .before .before .before .before .before .args .sz)) (c .before .before .before .before .before .before .args .k)
-is-d c = rw (c .before .before .before .before .before .divide .ensures .0) at (c .cue-at .ensures)
+is-d : (c : tie.After-cue-factor) → c .cue-factor .result ≡ cueAt (ratioOf (c .before .before .before .before .before .before .args .k .h) (c .before .before .before .before .before .before .args .sz)) (c .before .before .before .before .before .before .args .k)
+is-d c = rw (c .before .before .before .before .before .divide .ensures .0) at (c .cue-factor .ensures)
 
 is-p : (c : tie.After-pair) → c .pair .result ≡ pairOf (c .before .before .before .before .before .before .coordinate .result .v) (c .before .before .before .before .coordinate2 .result .v)
 is-p c = rw (back w16 (c .before .before .before .before .before .before .coordinate .result .v) (c .before .before .struct-told3 .given .0 .1), back w16 (c .before .before .before .before .coordinate2 .result .v) (c .before .struct-told4 .given .0 .1)) at (c .pair .ensures)
@@ -28,7 +28,7 @@ unfolding or
 returns c =
     let a = c .before .before .before .before .before .before .before .before .before .before .before .before .before .before .args in
     rw (
-      back w32 (c .before .before .before .before .before .before .before .before .cue-at .result .mac0) (c .struct-told5 .given .0 .1),
+      back w32 (c .before .before .before .before .before .before .before .before .cue-factor .result .mac0) (c .struct-told5 .given .0 .1),
       is-p (c .before .before .before .before .before),
       c .before .before .before .before .before .before .before .before .before .before .before .before .before .divide .ensures .0,
       is-x (c .before .before .before .before .before .before .before .before .before .before .before),

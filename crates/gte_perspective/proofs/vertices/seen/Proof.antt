@@ -65,7 +65,7 @@ returns-8 c =
 
 returns-9 : tie.Need-returns-9
 returns-9 c =
-    rw (c .leave-vertex .ensures, c .before .plain4 .ensures, c .before .before .cue-at .ensures, c .before .before .before .before .before .before .before .before .if2 .left, inputs-view (c .before .before .before .before .before .before .before .before .before .before .before .before .before .before .before .before .before .before .before .before .before .args .c .now), vertex c)
+    rw (c .leave-vertex .ensures, c .before .plain4 .ensures, c .before .before .cue-factor .ensures, c .before .before .before .before .before .before .before .before .if2 .left, inputs-view (c .before .before .before .before .before .before .before .before .before .before .before .before .before .before .before .before .before .before .before .before .before .args .c .now), vertex c)
 
 pub seen-spec : {M : Type 1} → statement M
 seen-spec =
