@@ -16,7 +16,7 @@ use Rattle.integers.specs.Wrap.{wrap-fits}
 use Rattle.gte_arithmetic.specs.Values.{irOf, depthOf, screenOf, factorOf}
 use Rattle.gte_arithmetic.specs.declared.limits.Short.{Short}
 use Rattle.gte_arithmetic.proofs.Flags.{or-none}
-use Rattle.gte_line.proofs.Plain.{by-4096, by-65536, wrap-none, sum-none, mac0-none, mac-plain}
+use Rattle.gte_line.proofs.Plain.{by-4096, by-65536, ir-mag, wrap-none, sum-none, mac0-none, mac-plain}
 use Rattle.gte_perspective.specs.Perspective.{coordinateOf, cueOf}
 use Rattle.gte_perspective.specs.Projection.{farOf, thirdOf}
 use Rattle.gte_perspective.specs.declared.projection.Third.{Third}
@@ -26,17 +26,15 @@ use Rattle.gte_perspective.specs.declared.screen.Factor.{Factor}
 pub never : {A : Type 0} → _≡_ {A = Bool} false true → A
 never e = let z : _≡_ {A = ℕ} 0 1 = cc in let b : ⊥ = omega arith in absurd b
 
--- ---- lines 3 and 4: a depth of 0..7FFFh is stored whole in MAC3, IR3 and SZ3, from a sum far from the ends of 44 bits
-pub depth-mag : (z : ℤ) → outside (pos 0) (pos 0x7fff) z ≡ false → Mag z 32768
-depth-mag z e = let k = inside (pos 0) (pos 0x7fff) z e in mag-between z (mag-le (mag-pos 0) (lit≤ tt)) (mag-pos 0x7fff) (k .0) (k .1)
-
-pub depth-unsigned : (z : ℤ) → outside (pos 0) (pos 0x7fff) z ≡ false → T (nonNeg z) × Fits w32 (natAbs z)
+-- ---- a number in 0..hi: what the cast to a word asks
+pub level-unsigned : (hi : ℕ) (z : ℤ) → hi < 2 ^ 32 → outside (pos 0) (pos hi) z ≡ false → T (nonNeg z) × Fits w32 (natAbs z)
 unfolding posPart negPart
-depth-unsigned z e =
-    let k = inside (pos 0) (pos 0x7fff) z e in
+level-unsigned hi z l e =
+    let k = inside (pos 0) (pos hi) z e in
     let u = k .1 in
     unsign w32 z (k .0) (omega zarith)
 
+-- ---- lines 3 and 4: a depth of 0..7FFFh is stored whole in MAC3, IR3 and SZ3, from a sum far from the ends of 44 bits
 pub depth-below : (z : ℤ) → outside (pos 0) (pos 0x7fff) z ≡ false → natAbs z < 0x8000
 unfolding posPart negPart
 depth-below z e =
@@ -61,7 +59,7 @@ pub third-plain : (x : ℤ) → outside (pos 0) (pos 0x7fff) (shrZ x 4096) ≡ f
 unfolding irOf depthOf
 third-plain x e =
     let k = inside (pos 0) (pos 0x7fff) (shrZ x 4096) e in
-    let m = depth-mag (shrZ x 4096) e in
+    let m = ir-mag true (shrZ x 4096) e in
     let l = low (shrZ x 4096) (k .0) in
     let h = high (shrZ x 4096) (k .1) in
     rw (mac-plain true x m, far x (by-4096 x m), sum-none 0x1000_0000 0x200_0000 x (by-4096 x m), clamp-in l (k .1), clamp-in (k .0) h, no-lt l, no-lt (k .1), no-lt (k .0), no-lt h, or-none 0, or-none 0)
@@ -77,13 +75,6 @@ coordinate-plain bit x e = rw (clamp-clear (negsuc 0x3ff) (pos 0x3ff) (shrZ x 65
 -- ---- line 7: an IR0 in range is not limited, and its exact value is far from the ends of MAC0
 pub factor-mag : (z : ℤ) → outside (pos 0) (pos 0x1000) z ≡ false → Mag z 32768
 factor-mag z e = let k = inside (pos 0) (pos 0x1000) z e in mag-between z (mag-le (mag-pos 0) (lit≤ tt)) (mag-le (mag-pos 0x1000) (lit≤ tt)) (k .0) (k .1)
-
-pub factor-unsigned : (z : ℤ) → outside (pos 0) (pos 0x1000) z ≡ false → T (nonNeg z) × Fits w32 (natAbs z)
-unfolding posPart negPart
-factor-unsigned z e =
-    let k = inside (pos 0) (pos 0x1000) z e in
-    let u = k .1 in
-    unsign w32 z (k .0) (omega zarith)
 
 pub cue-plain : (x : ℤ) → outside (pos 0) (pos 0x1000) (shrZ x 4096) ≡ false → _≡_ {A = Factor} (record { mac0 = x; ir0 = natAbs (shrZ x 4096); flag = 0 }) (cueOf x)
 unfolding factorOf

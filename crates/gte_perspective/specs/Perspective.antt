@@ -31,6 +31,7 @@ coordinateOf x bit = record { v = screenOf (shrZ x 65536); flag = or (mac0Flag x
 abbrev pub cueOf : ℤ → Factor
 cueOf x = record { mac0 = wrap (2 ^ 31) x; ir0 = factorOf (shrZ x 4096); flag = or (mac0Flag x) (limitFlag factorRange (shrZ x 4096) 0x1000) }
 
+-- line 7 of a quotient
 abbrev pub cueAt : ℕ → Camera → Factor
 cueAt q k = cueOf (exactOf q (k .dqa) (k .dqb))
 

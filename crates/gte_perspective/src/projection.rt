@@ -106,7 +106,7 @@ pub struct Front {
     pub sz: u32,
 }
 
-// One test for each value: the depth and line 5's of the quotient first, since most vertices that set a bit are too near or behind.
+// One test for each value. The depth and line 5's of the quotient come first: a vertex that is too near or behind needs no more sums.
 pub fn in_front(s: Wide, h: u32) -> Front
     ensures { λ r. ⌜ (r .clear ≡ true → InFront s h r) ⌝ }
 {

@@ -147,7 +147,7 @@ pub fn on_screen(q: u32, k: Camera, f: Front) -> Point
     }
 }
 
-// Line 7 sets no bit.
+// Whether line 7 sets no bit.
 fn cue_clear(q: u32, k: Camera) -> bool
     requires { ⌜ q < 2 ^ 17 ⌝ }
     ensures { λ r. ⌜ (r ≡ true → cueAt q k .flag ≡ 0) ⌝ }
@@ -155,7 +155,7 @@ fn cue_clear(q: u32, k: Camera) -> bool
     within(0, 0x1000, shift_12(exact(q, k.dqa, k.dqb)))
 }
 
-// Line 7 of two vertices.
+// The same of two vertices.
 fn both_clear(p: u32, q: u32, k: Camera) -> bool
     requires { ⌜ (p < 2 ^ 17) × (q < 2 ^ 17) ⌝ }
     ensures { λ r. ⌜ (r ≡ true → (cueAt p k .flag ≡ 0) × (cueAt q k .flag ≡ 0)) ⌝ }

@@ -1,11 +1,10 @@
 // RTPS and RTPT.
 ghost use mathlib.Core.Path.{_≡_};
-ghost use mathlib.Core.Bool.{true, cond};
+ghost use mathlib.Core.Bool.{true, false, cond};
 ghost use Prim.Native.Nat.{_<_};
-ghost use Rattle.gte_registers.specs.Registers.{view, reads};
+ghost use Rattle.gte_registers.specs.Registers.{view};
 ghost use Rattle.gte_inputs.specs.Inputs.{inputsOf};
 ghost use Rattle.gte_perspective.specs.Vertices.{vertexAt, plainOf, leftOf};
-ghost use Rattle.gte_results.specs.VertexEffects.{vertexLeft, verticesLeft};
 use crate::projection::Front;
 use crate::projection::in_front;
 use crate::projection::project;
@@ -116,7 +115,7 @@ fn seen(c: &mut [u32; 64], three: bool) -> bool
 
 // V0 rotated, translated and projected.
 pub fn rtps(c: &mut [u32; 64], sf: bool)
-    ensures { λ _. ⌜ view (now (c .exit)) ≡ reads (vertexLeft (vertexAt sf (inputsOf (view (now (c .entry)))) 0) (view (now (c .entry)))) ⌝ }
+    ensures { λ _. ⌜ view (now (c .exit)) ≡ leftOf false sf (view (now (c .entry))) ⌝ }
 {
     if sf {
         if seen(c, false) {
@@ -129,7 +128,7 @@ pub fn rtps(c: &mut [u32; 64], sf: bool)
 
 // V0, V1 and V2. The three parts read nothing that one of them writes.
 pub fn rtpt(c: &mut [u32; 64], sf: bool)
-    ensures { λ _. ⌜ view (now (c .exit)) ≡ reads (verticesLeft (vertexAt sf (inputsOf (view (now (c .entry)))) 0) (vertexAt sf (inputsOf (view (now (c .entry)))) 1) (vertexAt sf (inputsOf (view (now (c .entry)))) 2) (view (now (c .entry)))) ⌝ }
+    ensures { λ _. ⌜ view (now (c .exit)) ≡ leftOf true sf (view (now (c .entry))) ⌝ }
 {
     if sf {
         if seen(c, true) {

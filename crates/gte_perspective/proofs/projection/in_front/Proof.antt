@@ -4,6 +4,7 @@ use borrow.Author.Tests.{not-true}
 use mathlib.Core.Path.{_≡_, sym, _∙_}
 use mathlib.Core.Bool.{true, false}
 use native.Mathlib.Omega.{arith}
+use lib.Dec.{lit<}
 use lib.IntN.{pos, negsuc}
 use lib.Signed.{shrZ}
 use mir.Syntax.{w16, w64}
@@ -12,7 +13,7 @@ use mir.Facts.{toZ-ofZ}
 use Rattle.integers.specs.Bound.{back, fit}
 use Rattle.integers.specs.Clamp.{outside}
 use Rattle.gte_line.proofs.Plain.{ir-mag, cell-plain}
-use Rattle.gte_perspective.proofs.Plain.{never, depth-mag, depth-unsigned, depth-below, third-plain}
+use Rattle.gte_perspective.proofs.Plain.{never, level-unsigned, depth-below, third-plain}
 use Rattle.gte_perspective.proofs.projection.in_front.Statement.{statement}
 use Rattle.gte_perspective.proofs.projection.in_front.Tie as tie
 
@@ -35,7 +36,7 @@ clear-y : (c : tie.After-within3) → c .within3 .result ≡ true → outside (n
 clear-y c e = not-true _ (sym (rw (back w64 (c .before .shift-123 .result) (c .before .shift-123 .ok), is-y (c .before)) at (c .within3 .ensures)) ∙ e)
 
 short-z : (c : tie.After-within) → c .within .result ≡ true → SFits w16 (c .before .shift-12 .result)
-short-z c e = rw (is-z (c .before)) (fit w16 (depth-mag _ (clear-z c e)) tt)
+short-z c e = rw (is-z (c .before)) (fit w16 (ir-mag true _ (clear-z c e)) tt)
 
 short-x : (c : tie.After-within2) → c .within2 .result ≡ true → SFits w16 (c .before .shift-122 .result)
 short-x c e = rw (is-x (c .before)) (fit w16 (ir-mag false _ (clear-x c e)) tt)
@@ -44,7 +45,7 @@ short-y : (c : tie.After-within3) → c .within3 .result ≡ true → SFits w16 
 short-y c e = rw (is-y (c .before)) (fit w16 (ir-mag false _ (clear-y c e)) tt)
 
 cast-test : tie.Need-cast-if2
-cast-test c = rw (back w64 (c .before .before .shift-12 .result) (c .before .before .shift-12 .ok), is-z (c .before .before)) (depth-unsigned (shrZ (c .before .before .before .before .args .s .z) 4096) (clear-z (c .before) (c .if1 .taken)))
+cast-test c = rw (back w64 (c .before .before .shift-12 .result) (c .before .before .shift-12 .ok), is-z (c .before .before)) (level-unsigned 0x7fff (shrZ (c .before .before .before .before .args .s .z) 4096) (lit< tt) (clear-z (c .before) (c .if1 .taken)))
 
 -- twice a depth has 16 bits
 double : tie.Need-mul-if2
@@ -62,7 +63,7 @@ cast-z : tie.Need-cast-t14
 cast-z c = rw (back w64 (c .before .before .before .before .before .before .before .before .before .before .before .shift-12 .result) (c .before .before .before .before .before .before .before .before .before .before .before .shift-12 .ok)) (short-z (c .before .before .before .before .before .before .before .before .before .before) (c .before .before .before .before .before .before .before .before .before .if1 .taken))
 
 cast-sz : tie.Need-cast-t15
-cast-sz c = rw (back w64 (c .before .before .before .before .before .before .before .before .before .before .before .shift-12 .result) (c .before .before .before .before .before .before .before .before .before .before .before .shift-12 .ok), is-z (c .before .before .before .before .before .before .before .before .before .before .before)) (depth-unsigned (shrZ (c .before .before .before .before .before .before .before .before .before .before .before .before .before .args .s .z) 4096) (clear-z (c .before .before .before .before .before .before .before .before .before .before) (c .before .before .before .before .before .before .before .before .before .if1 .taken)))
+cast-sz c = rw (back w64 (c .before .before .before .before .before .before .before .before .before .before .before .shift-12 .result) (c .before .before .before .before .before .before .before .before .before .before .before .shift-12 .ok), is-z (c .before .before .before .before .before .before .before .before .before .before .before)) (level-unsigned 0x7fff (shrZ (c .before .before .before .before .before .before .before .before .before .before .before .before .before .args .s .z) 4096) (lit< tt) (clear-z (c .before .before .before .before .before .before .before .before .before .before) (c .before .before .before .before .before .before .before .before .before .if1 .taken)))
 
 returns : tie.Need-returns
 returns c e =

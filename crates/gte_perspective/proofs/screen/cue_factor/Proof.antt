@@ -3,6 +3,7 @@ use borrow.Author.Needs.{needs}
 use borrow.Author.Tests.{not-true}
 use mathlib.Core.Path.{_≡_, sym, _∙_}
 use mathlib.Core.Bool.{true, false}
+use lib.Dec.{lit<}
 use lib.IntN.{pos}
 use lib.Signed.{shrZ}
 use mir.Syntax.{w16, w32, w64}
@@ -12,7 +13,7 @@ use Rattle.integers.specs.Bound.{back, fit}
 use Rattle.integers.specs.Clamp.{outside}
 use Rattle.gte_line.proofs.Plain.{by-4096}
 use Rattle.gte_perspective.specs.Perspective.{exactOf}
-use Rattle.gte_perspective.proofs.Plain.{factor-mag, factor-unsigned, cue-plain}
+use Rattle.gte_perspective.proofs.Plain.{factor-mag, level-unsigned, cue-plain}
 use Rattle.gte_perspective.proofs.screen.cue_factor.Statement.{statement}
 use Rattle.gte_perspective.proofs.screen.cue_factor.Tie as tie
 
@@ -38,7 +39,7 @@ cast-mac c = rw (back w64 (c .before .before .before .exact .result) (c .before 
 cast-ir : tie.Need-cast-t7
 cast-ir c =
     let a = c .before .before .before .before .before .before .args in
-    rw (back w64 (c .before .before .shift-12 .result) (c .before .before .shift-12 .ok), is-f (c .before .before)) (factor-unsigned (shrZ (exactOf (a .q) (a .k .dqa) (a .k .dqb)) 4096) (clear (c .before) (c .if1 .taken)))
+    rw (back w64 (c .before .before .shift-12 .result) (c .before .before .shift-12 .ok), is-f (c .before .before)) (level-unsigned 0x1000 (shrZ (exactOf (a .q) (a .k .dqa) (a .k .dqb)) 4096) (lit< tt) (clear (c .before) (c .if1 .taken)))
 
 returns : tie.Need-returns
 returns c =
