@@ -111,7 +111,9 @@ enum fliskadee_code {
     FLISKADEE_REFUSED_RAM_LENGTH = 3,   /* the RAM's length is no multiple of 4 in 4..2,097,152; nothing changed */
     FLISKADEE_REFUSED_COUNT = 4,        /* the count is above 1,000,000; nothing changed */
     FLISKADEE_UNLISTED = 5,             /* steps remain, and the next instruction is a usable COP2 command that is not one of
-                                           the 22: image and RAM are as just before it */
+                                           the 22: image and RAM are as just before it. Of fliskadee_causes: the command word
+                                           is not one of the 22; nothing changed */
+    FLISKADEE_REFUSED_SPACE = 8,        /* fliskadee_causes only: too few words are lent; nothing changed */
     FLISKADEE_FLAG_UP = 16              /* fliskadee_find_flag only: a bit of the mask came up in the last step completed */
 };
 
@@ -131,6 +133,42 @@ uint64_t fliskadee_run(uint8_t *image, size_t image_length, uint8_t *ram, size_t
  * mask's bits was set before that step: the code is then 16, and the step is counted. To have the machine just before that
  * step, run one step fewer from the same start. An accepted image is accepted again as the call has left it. */
 uint64_t fliskadee_find_flag(uint8_t *image, size_t image_length, uint8_t *ram, size_t ram_length, uint64_t count, uint32_t mask);
+
+/* ---- The answer of fliskadee_causes: a code of the list above, and a number beside it */
+struct fliskadee_answer {
+    uint64_t code, number;
+};
+
+/* Why bits of FLAG are set: every cause for which the GTE command of a word sets bits 30 to 12, on the machine of an image. The
+ * command is the word's low 25 bits, as an instruction has them; the top seven bits are ignored, and so is SR. The image is only
+ * read.
+ *
+ * A cause is a row of five words:
+ *
+ *   0  the bit of FLAG, 30..12
+ *   1  the part of a triple (RTPT, NCT, NCCT, NCDT, DPCT): 1, 2 or 3; of every other command 1
+ *   2  the line of the command's formula in 001, counted from 1 within one part: lines that write a register, those that are
+ *      marked for other commands too. FC-MAC stands on the line of MAC+(FC-MAC)*IR0, the quotient on that of SX
+ *   3  the low word of the value that left its range, exact and signed; for bit 17 H
+ *   4  its high word; for bit 17 SZ3
+ *
+ * Rows stand by bit from 30 down, then by part, then by line, and no two have the same three. A bit of 30..12 has a row exactly
+ * when the command sets it.
+ *
+ * Codes 1, 2, 5 and 8 are tested in this order. Code 0: the rows stand at the beginning of the words, the words behind them are as
+ * before, and the number is that of the words written, five for each row. Code 8: the rows do not all fit, nothing is written, and
+ * the number is that of the words that they need. Every other code has the number 0. No command needs more than
+ * FLISKADEE_MOST_CAUSE_WORDS. */
+#define FLISKADEE_CAUSE_WORDS 5
+#define FLISKADEE_MOST_CAUSE_WORDS 585
+struct fliskadee_answer fliskadee_causes(const uint8_t *image, size_t image_length, uint32_t command, uint32_t *words,
+                                         size_t words_length);
+
+/* The value of a row, but of one of bit 17. */
+static inline int64_t fliskadee_cause_value(const uint32_t *row)
+{
+    return (int64_t)((uint64_t)row[4] << 32 | row[3]);
+}
 
 /* The RAM window: which part of the lent RAM a virtual address and a length name. The answer is the place of the part's first
  * byte in ram times 2^32, plus the part's length. The length is 0 exactly when the length asked for is 0, the RAM's length is

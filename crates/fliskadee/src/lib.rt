@@ -1,11 +1,14 @@
-// What the host in C calls. Carries 01 "The run and its numbers": the run and the window, over lent bytes and numbers.
+// What the host in C calls, over lent bytes, words and numbers. Carries 01 "The run and its numbers", and the calls of 02.
 ghost use mathlib.Core.Path.{_≡_};
 ghost use Prim.Native.Nat.{_+_, _*_, _^_};
 ghost use lib.ListN.{length};
 ghost use Rattle.window.specs.Window.{windowAt, windowLength};
+ghost use Rattle.causes.specs.Causes.{Causes};
 ghost use Rattle.fliskadee.specs.Find.{answer, findOf};
 ghost use Rattle.fliskadee.specs.Answer.{answerOf};
 ghost use Rattle.fliskadee.specs.Interface.{interfaceNumber};
+use answer::Answer;
+use causes::list_causes;
 use image::admission::read_image;
 use image::admission::refusal;
 use image::bytes::write_image;
@@ -59,6 +62,14 @@ pub extern "C" fn fliskadee_window(ram: &[u8], address: u32, n: u64) -> u64
 {
     let p = part_of(Virt(address), n as usize, ram.len());
     (p.at as u64) * 0x1_0000_0000 + p.length as u64
+}
+
+// Why bits of FLAG are set by a GTE command on the machine of an image: rows of five words.
+#[no_mangle]
+pub extern "C" fn fliskadee_causes(image: &[u8], word: u32, words: &mut [u32]) -> Answer
+    ensures { λ r. ⌜ Causes (now (image .entry)) word (now (words .entry)) r (now (words .exit)) ⌝ }
+{
+    list_causes(image, word, words)
 }
 
 // Which interface the library was built with, so that a host can tell a header that is not its own (FLISKADEE_INTERFACE there).

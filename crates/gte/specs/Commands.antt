@@ -1,5 +1,5 @@
 -- The 22 commands on the 64 words.
-use mathlib.Core.Bool.{Bool}
+use mathlib.Core.Bool.{Bool, true, false}
 use mathlib.Core.List.{List, [], _∷_, _++_}
 use Prim.Native.Nat.{ℕ, _+_, _/_, _%_}
 use lib.IntN.{pos, _*ℤ_}
@@ -106,31 +106,44 @@ leaves GPL sf lm word i w = shadeLeft (gplOf sf lm i) w
 leaves NCCT sf lm word i w = shadesLeft (nccsOf sf lm i 0) (nccsOf sf lm i 1) (nccsOf sf lm i 2) w
 leaves unlisted sf lm word i w = w
 
+-- every check that a command makes, by part: a triple has three, in the order in which they are carried out, and every other command one
+unfoldable pub partsOf : Command → Bool → Bool → ℕ → Inputs → List (List Check)
+partsOf RTPS sf lm word i = vertexChecksAt sf i 0 ∷ []
+partsOf NCLIP sf lm word i = mac0Checks 1 (windingOf (i .sxy0) (i .sxy1) (i .sxy2)) [] ∷ []
+partsOf OP sf lm word i = outerChecks sf lm i ∷ []
+partsOf DPCS sf lm word i = depthCuedChecks sf lm i (dpcsFrom i) ∷ []
+partsOf INTPL sf lm word i = depthCuedChecks sf lm i (intplFrom i) ∷ []
+partsOf MVMVA sf lm word i = mvmvaChecks sf lm (mxOf word) (vOf word) (cvOf word) i ∷ []
+partsOf NCDS sf lm word i = ncdsChecks sf lm i 0 ∷ []
+partsOf CDP sf lm word i = cdpChecks sf lm i ∷ []
+partsOf NCDT sf lm word i = ncdsChecks sf lm i 0 ∷ ncdsChecks sf lm i 1 ∷ ncdsChecks sf lm i 2 ∷ []
+partsOf NCCS sf lm word i = nccsChecks sf lm i 0 ∷ []
+partsOf CC sf lm word i = ccChecks sf lm i ∷ []
+partsOf NCS sf lm word i = ncsChecks sf lm i 0 ∷ []
+partsOf NCT sf lm word i = ncsChecks sf lm i 0 ∷ ncsChecks sf lm i 1 ∷ ncsChecks sf lm i 2 ∷ []
+partsOf SQR sf lm word i = squareChecks sf lm i ∷ []
+partsOf DCPL sf lm word i = depthCuedChecks sf lm i (dcplFrom i) ∷ []
+partsOf DPCT sf lm word i = depthCuedChecks sf lm i (dpctFrom i 0) ∷ depthCuedChecks sf lm i (dpctFrom i 1) ∷ depthCuedChecks sf lm i (dpctFrom i 2) ∷ []
+partsOf AVSZ3 sf lm word i = averageChecks 1 (i .zsf3 *ℤ pos (i .sz1 + i .sz2 + i .sz3)) ∷ []
+partsOf AVSZ4 sf lm word i = averageChecks 2 (i .zsf4 *ℤ pos (i .sz0 + i .sz1 + i .sz2 + i .sz3)) ∷ []
+partsOf RTPT sf lm word i = vertexChecksAt sf i 0 ∷ vertexChecksAt sf i 1 ∷ vertexChecksAt sf i 2 ∷ []
+partsOf GPF sf lm word i = shadeChecks 3 4 sf lm (gpfFrom i) ∷ []
+partsOf GPL sf lm word i = shadeChecks 3 4 sf lm (gplFrom sf i) ∷ []
+partsOf NCCT sf lm word i = nccsChecks sf lm i 0 ∷ nccsChecks sf lm i 1 ∷ nccsChecks sf lm i 2 ∷ []
+partsOf unlisted sf lm word i = []
+
+-- lists one after another; one alone is itself
+abbrev pub joinedFrom : List Check → List (List Check) → List Check
+joinedFrom p [] = p
+joinedFrom p (q ∷ ps) = p ++ joinedFrom q ps
+
+abbrev pub joined : List (List Check) → List Check
+joined [] = []
+joined (p ∷ ps) = joinedFrom p ps
+
 -- every check that a command makes, part after part
 unfoldable pub checksOf : Command → Bool → Bool → ℕ → Inputs → List Check
-checksOf RTPS sf lm word i = vertexChecksAt sf i 0
-checksOf NCLIP sf lm word i = mac0Checks 1 (windingOf (i .sxy0) (i .sxy1) (i .sxy2)) []
-checksOf OP sf lm word i = outerChecks sf lm i
-checksOf DPCS sf lm word i = depthCuedChecks sf lm i (dpcsFrom i)
-checksOf INTPL sf lm word i = depthCuedChecks sf lm i (intplFrom i)
-checksOf MVMVA sf lm word i = mvmvaChecks sf lm (mxOf word) (vOf word) (cvOf word) i
-checksOf NCDS sf lm word i = ncdsChecks sf lm i 0
-checksOf CDP sf lm word i = cdpChecks sf lm i
-checksOf NCDT sf lm word i = ncdsChecks sf lm i 0 ++ (ncdsChecks sf lm i 1 ++ ncdsChecks sf lm i 2)
-checksOf NCCS sf lm word i = nccsChecks sf lm i 0
-checksOf CC sf lm word i = ccChecks sf lm i
-checksOf NCS sf lm word i = ncsChecks sf lm i 0
-checksOf NCT sf lm word i = ncsChecks sf lm i 0 ++ (ncsChecks sf lm i 1 ++ ncsChecks sf lm i 2)
-checksOf SQR sf lm word i = squareChecks sf lm i
-checksOf DCPL sf lm word i = depthCuedChecks sf lm i (dcplFrom i)
-checksOf DPCT sf lm word i = depthCuedChecks sf lm i (dpctFrom i 0) ++ (depthCuedChecks sf lm i (dpctFrom i 1) ++ depthCuedChecks sf lm i (dpctFrom i 2))
-checksOf AVSZ3 sf lm word i = averageChecks 1 (i .zsf3 *ℤ pos (i .sz1 + i .sz2 + i .sz3))
-checksOf AVSZ4 sf lm word i = averageChecks 2 (i .zsf4 *ℤ pos (i .sz0 + i .sz1 + i .sz2 + i .sz3))
-checksOf RTPT sf lm word i = vertexChecksAt sf i 0 ++ (vertexChecksAt sf i 1 ++ vertexChecksAt sf i 2)
-checksOf GPF sf lm word i = shadeChecks 3 4 sf lm (gpfFrom i)
-checksOf GPL sf lm word i = shadeChecks 3 4 sf lm (gplFrom sf i)
-checksOf NCCT sf lm word i = nccsChecks sf lm i 0 ++ (nccsChecks sf lm i 1 ++ nccsChecks sf lm i 2)
-checksOf unlisted sf lm word i = []
+checksOf c sf lm word i = joined (partsOf c sf lm word i)
 
 abbrev pub listed : Command → Outcome
 listed RTPS = Done
@@ -160,6 +173,10 @@ listed unlisted = Unlisted
 -- whether there is such a command: carried out, or not listed
 unfoldable pub outcomeOf : ℕ → Outcome
 outcomeOf word = listed (commandIn word)
+
+abbrev pub isDone : Outcome → Bool
+isDone Done = true
+isDone Unlisted = false
 
 abbrev pub ifDone : Outcome → List ℕ → List ℕ → List ℕ
 ifDone Done a w = a

@@ -2,7 +2,7 @@
 ghost use mathlib.Core.Path.{_≡_};
 ghost use Rattle.words.specs.Words.{bitAt};
 ghost use Rattle.gte_registers.specs.Registers.{view};
-ghost use Rattle.gte.specs.Commands.{outcomeOf, commandOf};
+ghost use Rattle.gte.specs.Commands.{outcomeOf, isDone, commandOf};
 use gte_depth::averages::avsz3;
 use gte_depth::averages::avsz4;
 use gte_depth::averages::nclip;
@@ -32,13 +32,15 @@ pub enum Outcome {
     Unlisted,
 }
 
-fn bit_19(word: u32) -> bool
+// sf: MAC1..3 are shifted by 12.
+pub fn bit_19(word: u32) -> bool
     ensures { λ r. ⌜ r ≡ bitAt 19 word ⌝ }
 {
     word / 0x8_0000 % 2 == 1
 }
 
-fn bit_10(word: u32) -> bool
+// lm: IR1..3 are limited to 0 at least.
+pub fn bit_10(word: u32) -> bool
     ensures { λ r. ⌜ r ≡ bitAt 10 word ⌝ }
 {
     word / 0x400 % 2 == 1
@@ -86,4 +88,35 @@ pub fn command(c: &mut [u32; 64], word: u32) -> Outcome
         }
     }
     Outcome::Done
+}
+
+// Whether a command word is one of the 22.
+pub fn is_listed(word: u32) -> bool
+    ensures { λ r. ⌜ r ≡ isDone (outcomeOf word) ⌝ }
+{
+    match word % 64 {
+        0x01 => true,
+        0x06 => true,
+        0x0c => true,
+        0x10 => true,
+        0x11 => true,
+        0x12 => true,
+        0x13 => true,
+        0x14 => true,
+        0x16 => true,
+        0x1b => true,
+        0x1c => true,
+        0x1e => true,
+        0x20 => true,
+        0x28 => true,
+        0x29 => true,
+        0x2a => true,
+        0x2d => true,
+        0x2e => true,
+        0x30 => true,
+        0x3d => true,
+        0x3e => true,
+        0x3f => true,
+        _ => false,
+    }
 }

@@ -24,16 +24,21 @@ pub fn back_sums(c: &[u32; 64], v: Vector) -> Wide
     product(light_colour(c), background(c), v)
 }
 
+// LLM·V.
+pub fn light_sums(c: &[u32; 64], k: usize) -> Wide
+    requires { ⌜ k < 3 ⌝ }
+    ensures is { λ r. ⌜ r ≡ lightSums (inputsOf (now (c .entry))) k ⌝ }
+    ensures small { λ r. ⌜ Bounded (3 * 2 ^ 43) r ⌝ }
+{
+    product(light(c), Long { x: 0, y: 0, z: 0 }, vector(c, k))
+}
+
 // Line 1 of the normal colour commands: LLM·V.
 pub fn light_line(c: &[u32; 64], k: usize, sf: bool, lm: bool) -> Line
     requires { ⌜ k < 3 ⌝ }
     ensures { λ r. ⌜ r ≡ lineOf sf lm (lightSums (inputsOf (now (c .entry))) k) ⌝ }
 {
-    finish(
-        product(light(c), Long { x: 0, y: 0, z: 0 }, vector(c, k)),
-        sf,
-        lm,
-    )
+    finish(light_sums(c, k), sf, lm)
 }
 
 // Lines 1 and 2 of NCCS and NCDS: IR is what line 2 leaves, the flags are those of both lines.

@@ -17,7 +17,7 @@ use gte_line::finish;
 use gte_line::finish_one;
 
 // MAC+(FC-MAC)·IR0, exact.
-pub(crate) struct Mixed {
+pub struct Mixed {
     pub v: Wide,
     pub flag: u32,
 }
@@ -38,7 +38,8 @@ fn away_one(fc: i32, b: i64) -> i64
     (fc as i64) * 4096 - b
 }
 
-fn away(fc: Long, s: Wide) -> Wide
+// FC-MAC, exact.
+pub fn away(fc: Long, s: Wide) -> Wide
     requires { ⌜ Bounded (2 ^ 28) s ⌝ }
     ensures is { λ r. ⌜ r ≡ farther fc s ⌝ }
     ensures small { λ r. ⌜ Bounded (3 * 2 ^ 43) r ⌝ }
@@ -59,7 +60,7 @@ fn toward_one(ir: i16, f: i16, b: i64) -> i64
 }
 
 // The interpolation with the far colour.
-pub(crate) fn mix(s: Wide, fc: Long, f: i16, sf: bool) -> Mixed
+pub fn mix(s: Wide, fc: Long, f: i16, sf: bool) -> Mixed
     requires { ⌜ Bounded (2 ^ 28) s ⌝ }
     ensures is { λ r. ⌜ r ≡ mixedOf sf fc f s ⌝ }
     ensures small { λ r. ⌜ Bounded (3 * 2 ^ 43) (r .v) ⌝ }

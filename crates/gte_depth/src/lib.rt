@@ -4,4 +4,4 @@
 pub mod averages;
 
 // Their exact values.
-mod values;
+pub mod values;

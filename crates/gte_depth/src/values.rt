@@ -1,7 +1,7 @@
 // Normal clipping, and the average of depths.
 ghost use mathlib.Core.Path.{_≡_};
 ghost use Prim.Native.Nat.{_*_, _^_};
-ghost use lib.IntN.{_+ℤ_, _-ℤ_, _*ℤ_};
+ghost use lib.IntN.{pos, _+ℤ_, _-ℤ_, _*ℤ_};
 ghost use Rattle.integers.specs.Wrap.{wrap};
 ghost use Rattle.gte_arithmetic.specs.Values.{mac0Flag};
 ghost use Rattle.gte_depth.specs.Depth.{windingOf, averageOf};
@@ -20,18 +20,32 @@ fn add_products(x0: i16, y0: i16, x1: i16, y1: i16, x2: i16, y2: i16) -> i64
     times(x0, y1) + times(x1, y2) + times(x2, y0) - times(x0, y2) - times(x1, y0) - times(x2, y1)
 }
 
-// NCLIP's value, stored as MAC0.
-pub fn winding(a: Corner, b: Corner, c: Corner) -> Stored
-    ensures { λ r. ⌜ r ≡ record { v = wrap (2 ^ 31) (windingOf a b c); flag = mac0Flag (windingOf a b c) } ⌝ }
+// NCLIP's value.
+pub fn winding_sum(a: Corner, b: Corner, c: Corner) -> i64
+    ensures { λ r. ⌜ r ≡ windingOf a b c ⌝ }
 {
-    store_mac0(add_products(a.x, a.y, b.x, b.y, c.x, c.y))
+    add_products(a.x, a.y, b.x, b.y, c.x, c.y)
 }
 
-// AVSZ3 and AVSZ4: a scale factor times the sum of three or four depths.
-pub fn average_depth(zsf: i16, total: u32) -> Average
+// The same, stored as MAC0.
+pub(crate) fn winding(a: Corner, b: Corner, c: Corner) -> Stored
+    ensures { λ r. ⌜ r ≡ record { v = wrap (2 ^ 31) (windingOf a b c); flag = mac0Flag (windingOf a b c) } ⌝ }
+{
+    store_mac0(winding_sum(a, b, c))
+}
+
+// AVSZ3's and AVSZ4's value: a scale factor times the sum of three or four depths.
+pub fn weighed(zsf: i16, total: u32) -> i64
+    ensures { λ r. ⌜ r ≡ zsf *ℤ pos total ⌝ }
+{
+    (zsf as i64) * (total as i64)
+}
+
+// MAC0 and OTZ from it.
+pub(crate) fn average_depth(zsf: i16, total: u32) -> Average
     ensures { λ r. ⌜ r ≡ averageOf zsf total ⌝ }
 {
-    let x = (zsf as i64) * (total as i64);
+    let x = weighed(zsf, total);
     let m = store_mac0(x);
     let z = limit_depth(shift_12(x));
     Average {

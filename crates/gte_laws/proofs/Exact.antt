@@ -34,7 +34,7 @@ use Rattle.gte_colour.specs.Cueing.{depthCued, depthCuedChecks}
 use Rattle.gte_shading.specs.DepthCueing.{dpctFrom, dpctOf}
 use Rattle.gte_matrix.specs.Multiply.{farOf, multipliedOf, mvmvaOf}
 use Rattle.gte_matrix.specs.SqrOp.{squareOf, outerOf}
-use Rattle.gte.specs.Commands.{Command, RTPS, NCLIP, OP, DPCS, INTPL, MVMVA, NCDS, CDP, NCDT, NCCS, CC, NCS, NCT, SQR, DCPL, DPCT, AVSZ3, AVSZ4, RTPT, GPF, GPL, NCCT, unlisted, commandIn, sfOf, lmOf, cvOf, leaves, checksOf, listed, outcomeOf, commandOf}
+use Rattle.gte.specs.Commands.{Command, RTPS, NCLIP, OP, DPCS, INTPL, MVMVA, NCDS, CDP, NCDT, NCCS, CC, NCS, NCT, SQR, DCPL, DPCT, AVSZ3, AVSZ4, RTPT, GPF, GPL, NCCT, unlisted, commandIn, sfOf, lmOf, cvOf, leaves, partsOf, checksOf, listed, outcomeOf, commandOf}
 use Rattle.gte.specs.declared.Outcome.{Outcome}
 use Rattle.gte.specs.declared.Outcome.the-variants.{Done, Unlisted}
 use Rattle.gte_laws.specs.Exact.{checksAt, someCounted, Demand2}
@@ -86,18 +86,18 @@ module _ (sf lm : Bool) (word : ℕ) (i : Inputs) (w : List ℕ) (h : length w �
   Checked c = reg (reads (leaves c sf lm word i w)) 63 ≡ flagWord (flags (checksOf c sf lm word i))
 
   mvmva-checked : Checked MVMVA
-  unfolding leaves checksOf mvmvaOf multipliedOf farOf
+  unfolding leaves checksOf partsOf mvmvaOf multipliedOf farOf
   mvmva-checked = line-flag w h _ ∙ ap flagWord (choice (eqb (cvOf word) 2) _ _ _ _ refl refl)
 
   shades-checked : (a b c : Shade) (p q r : List Check) → a .flag ≡ flags p → b .flag ≡ flags q → c .flag ≡ flags r → reg (reads (shadesLeft a b c w)) 63 ≡ flagWord (flags (p ++ (q ++ r)))
   shades-checked a b c p q r d e f = shades-flag w h a b c ∙ ap flagWord (rw (d, e, f) (parts p q r))
 
   rtpt-checked : Checked RTPT
-  unfolding leaves checksOf vertexOf
+  unfolding leaves checksOf partsOf vertexOf
   rtpt-checked = vertices-flag w h _ _ _ ∙ ap flagWord (parts _ _ _)
 
   flags-are : (c : Command) → listed c ≡ Done → Checked c
-  unfolding leaves checksOf vertexOf squareOf outerOf ncsOf nccsOf ncdsOf ccOf cdpOf depthCued gpfOf gplOf averageOf averageChecks flags
+  unfolding leaves checksOf partsOf vertexOf squareOf outerOf ncsOf nccsOf ncdsOf ccOf cdpOf depthCued gpfOf gplOf averageOf averageChecks flags
   flags-are RTPS e = vertex-flag w h _
   flags-are NCLIP e = winding-flag w h _
   flags-are OP e = line-flag w h _

@@ -34,7 +34,8 @@ fn odd_matrix(m: [[i16; 3]; 3], f: i16) -> [[i16; 3]; 3]
     [[-0x60, 0x60, f], [a, a, a], [b, b, b]]
 }
 
-fn chosen_matrix(c: &[u32; 64], mx: u32) -> [[i16; 3]; 3]
+// RT, LLM, LCM or matrix 3, by mx.
+pub fn chosen_matrix(c: &[u32; 64], mx: u32) -> [[i16; 3]; 3]
     ensures { λ m. ⌜ m ≡ matrixBy mx (inputsOf (now (c .entry))) ⌝ }
 {
     match mx {
@@ -45,7 +46,8 @@ fn chosen_matrix(c: &[u32; 64], mx: u32) -> [[i16; 3]; 3]
     }
 }
 
-fn chosen_vector(c: &[u32; 64], v: u32) -> Vector
+// V0, V1, V2 or IR, by v.
+pub fn chosen_vector(c: &[u32; 64], v: u32) -> Vector
     ensures { λ r. ⌜ r ≡ vectorBy v (inputsOf (now (c .entry))) ⌝ }
 {
     match v {
@@ -56,7 +58,8 @@ fn chosen_vector(c: &[u32; 64], v: u32) -> Vector
     }
 }
 
-fn chosen_long(c: &[u32; 64], cv: u32) -> Long
+// TR, BK, FC or zeros, by cv.
+pub fn chosen_long(c: &[u32; 64], cv: u32) -> Long
     ensures { λ r. ⌜ r ≡ longBy cv (inputsOf (now (c .entry))) ⌝ }
 {
     match cv {
@@ -68,7 +71,7 @@ fn chosen_long(c: &[u32; 64], cv: u32) -> Long
 }
 
 // The third product of each row.
-fn thirds(m: [[i16; 3]; 3], v: Vector) -> Wide
+pub fn thirds(m: [[i16; 3]; 3], v: Vector) -> Wide
     ensures is { λ r. ⌜ r ≡ thirdsOf m v ⌝ }
     ensures small { λ r. ⌜ Bounded (2 ^ 43) r ⌝ }
 {

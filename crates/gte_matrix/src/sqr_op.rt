@@ -21,7 +21,7 @@ pub fn sqr(c: &mut [u32; 64], sf: bool, lm: bool)
 }
 
 // RT11, RT22 and RT33.
-fn diagonal_of(m: [[i16; 3]; 3]) -> Vector
+pub fn diagonal_of(m: [[i16; 3]; 3]) -> Vector
     ensures { λ r. ⌜ r ≡ diagonalOf m ⌝ }
 {
     Vector {

@@ -38,7 +38,7 @@ fn pair(x: i16, y: i16) -> u32
 }
 
 // The quotient times a factor, plus an offset.
-fn exact(q: u32, k: i16, b: i32) -> i64
+pub fn exact(q: u32, k: i16, b: i32) -> i64
     requires { ⌜ q < 2 ^ 17 ⌝ }
     ensures { λ r. ⌜ r ≡ exactOf q k b ⌝ }
 {

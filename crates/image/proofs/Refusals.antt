@@ -108,6 +108,11 @@ code-of r m e = ap (λ (x : Read). x .code) e
 pub machine-of : (r : Read) (m x : List ℕ) → r ≡ readOf m → imageRefusal m ≡ 0 → state (r .control) (r .registers) (view (r .geometry)) x ≡ machineOf m x
 machine-of r m x e z = rw e (machine-read m x z)
 
+-- its COP2 words are the image's
+pub geometry-of : (r : Read) (m : List ℕ) → r ≡ readOf m → imageRefusal m ≡ 0 → r .geometry ≡ geometryIn m
+unfolding imageRefusal readOf
+geometry-of r m e h = let p = all-pass 2 (imageTests m []) refl h in rw (e, p .0)
+
 -- ---- what the code reads is what is read
 pub read-other : (m : List ℕ) (c : Control) → (length m ≡ imageLength → ⊥) → c ≡ controlOf (replicate 12 0) → _≡_ {A = Read} (record { code = 1; control = c; registers = replicate 32 0; geometry = replicate 64 0 }) (readOf m)
 unfolding readOf imageRefusal firstOf

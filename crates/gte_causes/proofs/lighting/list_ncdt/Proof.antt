@@ -1,0 +1,18 @@
+use borrow.Author.Needs.{needs}
+use native.Mathlib.Omega.{arith}
+use Rattle.gte_causes.proofs.Parts.{triple}
+use Rattle.gte_causes.proofs.lighting.list_ncdt.Statement.{statement}
+use Rattle.gte_causes.proofs.lighting.list_ncdt.Tie as tie
+
+returns : tie.Need-returns
+returns c = (triple (c .before .before .before .before .before .before .before .before .before .before .list-ncds .ensures .0) (c .before .before .before .before .before .before .list-ncds2 .ensures .0) (c .before .before .list-ncds3 .ensures .0), omega (arith, c .before .before .before .before .before .before .before .before .before .before .list-ncds .ensures .1, c .before .before .before .before .before .before .list-ncds2 .ensures .1, c .before .before .list-ncds3 .ensures .1))
+
+pub list-ncdt-spec : {M : Type 1} → statement M
+list-ncdt-spec =
+    tie.close
+    (tie.spec
+    (λ c κs. search needs)
+    (λ c κs. search needs)
+    (λ c κs. search needs)
+    (λ c. search needs)
+    returns)

@@ -1,0 +1,18 @@
+use borrow.Author.Needs.{needs}
+use native.Mathlib.Omega.{arith}
+use Rattle.gte_causes.proofs.Parts.{triple}
+use Rattle.gte_causes.proofs.shading.list_dpct.Statement.{statement}
+use Rattle.gte_causes.proofs.shading.list_dpct.Tie as tie
+
+returns : tie.Need-returns
+returns c = (triple (c .before .before .before .before .before .before .before .before .before .before .list-dpct-part .ensures .0) (c .before .before .before .before .before .before .list-dpct-part2 .ensures .0) (c .before .before .list-dpct-part3 .ensures .0), omega (arith, c .before .before .before .before .before .before .before .before .before .before .list-dpct-part .ensures .1, c .before .before .before .before .before .before .list-dpct-part2 .ensures .1, c .before .before .list-dpct-part3 .ensures .1))
+
+pub list-dpct-spec : {M : Type 1} → statement M
+list-dpct-spec =
+    tie.close
+    (tie.spec
+    (λ c κs. search needs)
+    (λ c κs. search needs)
+    (λ c κs. search needs)
+    (λ c. search needs)
+    returns)
