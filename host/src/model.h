@@ -3,8 +3,8 @@
  *
  * It is written from the papers alone and shares no code with the library, so
  * that the two can be compared. model_run, model_find_flag and model_window
- * have the interfaces of the library's three calls; the calls below them run
- * the same machine one step at a time.
+ * have the interfaces of the library's calls (that of its fourth is in
+ * causes.h); the calls below them run the same machine one step at a time.
  */
 #ifndef MODEL_H
 #define MODEL_H
@@ -27,6 +27,7 @@ enum model_code {
     MODEL_RAM_LENGTH = 3,
     MODEL_COUNT = 4,
     MODEL_UNLISTED = 5,
+    MODEL_SPACE = 8, /* of model_causes (causes.h) alone */
     MODEL_FLAG_UP = 16 /* of model_find_flag alone */
 };
 

@@ -2,6 +2,7 @@
  * Unit tests of the model and of the disassembler: the figures of 01, its
  * rules one by one, and the points at which the obvious code is wrong.
  */
+#include "causes.h"
 #include "disassemble.h"
 #include "encode.h"
 #include "model.h"
@@ -1881,6 +1882,528 @@ static void demand_3(void)
     }
 }
 
+/* ---- Why bits of FLAG are set (02, Ticket 5) ------------------------------------ */
+
+#define CAUSE_SPACE 400
+#define UNUSED_WORD 0xA5C3A5C3u
+
+static uint32_t cause_words[CAUSE_SPACE];
+
+/* Asks with this many words, and holds that the words behind those that the answer counts are as before. */
+static struct model_answer ask_length(size_t image_length, uint32_t instruction, size_t space)
+{
+    uint8_t image[512] = {0}, before[512];
+    struct model_answer a;
+    size_t i, changed = 0;
+
+    for (i = 0; i < CAUSE_SPACE; i++)
+        cause_words[i] = UNUSED_WORD;
+    put_image(image);
+    memcpy(before, image, sizeof image);
+    a = model_causes(image, image_length, instruction, cause_words, space);
+    for (i = a.code == MODEL_DONE ? (size_t)a.number : 0; i < CAUSE_SPACE; i++)
+        changed += cause_words[i] != UNUSED_WORD;
+    if (changed != 0 || memcmp(before, image, sizeof image) != 0)
+        equal("causes change the image or words that are not theirs", true, false);
+    return a;
+}
+
+static struct model_answer ask(uint32_t instruction, size_t space)
+{
+    return ask_length(MODEL_IMAGE_BYTES, instruction, space);
+}
+
+static void answers(const char *what, struct model_answer a, uint64_t code, uint64_t number)
+{
+    equal(what, a.code, code);
+    equal(what, a.number, number);
+}
+
+struct cause {
+    uint32_t bit, part, line;
+    int64_t value; /* of bit 17 H, and SZ3 in the upper half */
+};
+
+/* The bits 30..12 that the command leaves in FLAG. */
+static uint32_t flag_after(uint32_t instruction)
+{
+    uint8_t image[MODEL_IMAGE_BYTES];
+    struct model machine;
+
+    put_image(image);
+    model_load(&machine, image);
+    model_command(&machine, instruction);
+    return machine.cop2[63] & 0x7FFFF000;
+}
+
+static void rows_are(const char *what, uint32_t instruction, const struct cause *expected, size_t count)
+{
+    struct model_answer a = ask(instruction, CAUSE_SPACE);
+    uint32_t bits = 0;
+    size_t i;
+
+    answers(what, a, MODEL_DONE, 5 * count);
+    for (i = 0; i < count; i++) {
+        const uint32_t *row = cause_words + 5 * i;
+
+        equal(what, row[0], expected[i].bit);
+        equal(what, row[1], expected[i].part);
+        equal(what, row[2], expected[i].line);
+        equal(what, row[3], (uint32_t)expected[i].value);
+        equal(what, row[4], (uint64_t)expected[i].value >> 32);
+        bits |= 1u << expected[i].bit;
+    }
+    equal(what, flag_after(instruction), bits);
+}
+
+#define ROWS(what, instruction, ...)                                                                                    \
+    rows_are(what, instruction, (const struct cause[]){__VA_ARGS__},                                                    \
+             sizeof((const struct cause[]){__VA_ARGS__}) / sizeof(struct cause))
+
+static int64_t divided(uint32_t h, uint32_t sz3)
+{
+    return (int64_t)((uint64_t)sz3 << 32 | h);
+}
+
+/* 01's camera with this vertex. */
+static void camera(int32_t x, int32_t y, int32_t z)
+{
+    fresh();
+    set(32, 0x1000);
+    set(34, 0x1000);
+    set(36, 0x1000);
+    set(56, 160 * 65536);
+    set(57, 120 * 65536);
+    set(58, 200);
+    set(0, halves(x, y));
+    set(1, (uint32_t)z);
+}
+
+static void perspective_causes(void)
+{
+    unsigned i;
+
+    camera(100, -50, 1000);
+    rows_are("causes of no bit", encode_command(0x01, 1, 0), NULL, 0);
+    camera(100, -50, 100); /* FLAG 80020000h */
+    ROWS("causes, Z 100", encode_command(0x01, 1, 0), {17, 1, 5, divided(200, 100)});
+    camera(100, -50, 101);
+    rows_are("causes, Z 101", encode_command(0x01, 1, 0), NULL, 0);
+    camera(100, -50, -1); /* SZ3 is the limited depth */
+    ROWS("causes, Z -1", encode_command(0x01, 1, 1), {18, 1, 4, -1}, {17, 1, 5, divided(200, 0)});
+    camera(0, 0, 0x7FFF); /* H is unsigned */
+    set(58, 0xFFFF);
+    ROWS("causes, H FFFFh", encode_command(0x01, 1, 0), {17, 1, 5, divided(0xFFFF, 0x7FFF)});
+
+    camera(100, -50, 1000); /* the parts of RTPT: V1 too near, V2 behind the camera */
+    set(3, 100);
+    set(5, (uint32_t)-7);
+    ROWS("causes, RTPT", encode_command(0x30, 1, 0), {18, 3, 4, -7}, {17, 2, 5, divided(200, 100)}, {17, 3, 5, divided(200, 0)});
+    for (i = 0; i < 6; i += 2) { /* one vertex of three */
+        camera(100, -50, 1000);
+        set(3, 1000);
+        set(5, 1000);
+        set(i + 1, 100);
+        ROWS("causes, one of three", encode_command(0x30, 1, 0), {17, i / 2 + 1, 5, divided(200, 100)});
+    }
+
+    fresh(); /* T-43: with sf 0 the depth has no row where MAC3 does not fit IR3 */
+    set(39, 0x10);
+    rows_are("causes, TRZ 10h, sf 0", encode_command(0x01, 0, 0), NULL, 0);
+    fresh();
+    set(39, 0x9000);
+    ROWS("causes, TRZ 9000h", encode_command(0x01, 1, 0), {22, 1, 3, 0x9000});
+    ROWS("causes, TRZ 9000h, sf 0", encode_command(0x01, 0, 0), {22, 1, 3, 0x9000});
+    fresh(); /* T-44: the sum as it is, the depth from 44 bits of it */
+    set(39, 0x7FFFFFFF);
+    set(36, 0x1000);
+    set(1, 1);
+    set(58, 0x10);
+    ROWS("causes, T-44", encode_command(0x01, 1, 0), {28, 1, 3, (int64_t)1 << 43}, {22, 1, 3, -0x80000000LL},
+         {18, 1, 4, -0x80000000LL}, {17, 1, 5, divided(0x10, 0)});
+    fresh(); /* T-45: bit 22 has the depth, not MAC3, which is 0 */
+    set(39, 0x100000);
+    ROWS("causes, T-45", encode_command(0x01, 0, 0), {22, 1, 3, 0x100000}, {18, 1, 4, 0x100000});
+
+    fresh(); /* IR1 and IR2 from the stored MAC */
+    set(37, 0x9000);
+    set(38, (uint32_t)-0x8001);
+    set(39, 1000);
+    ROWS("causes, IR1 and IR2", encode_command(0x01, 1, 1), {24, 1, 1, 0x9000}, {23, 1, 2, -0x8001});
+    ROWS("causes, IR1 and IR2, sf 0", encode_command(0x01, 0, 1), {24, 1, 1, 0x9000000}, {23, 1, 2, -0x8001000});
+    fresh(); /* T-46: the first of three MAC0s */
+    set(37, (uint32_t)-32768);
+    set(39, 1000);
+    set(58, 1999);
+    set(56, 0x80000000);
+    ROWS("causes, T-46", encode_command(0x01, 1, 0), {15, 1, 5, -6440321024}, {14, 1, 5, -98272});
+    fresh(); /* T-47 */
+    set(37, 32767);
+    set(39, 1000);
+    set(58, 1999);
+    ROWS("causes, T-47", encode_command(0x01, 1, 0), {16, 1, 5, 4292706369}, {14, 1, 5, 65501});
+    fresh(); /* MAC0 on all three lines: OFX, OFY and DQB */
+    set(37, 32767);
+    set(38, 32767);
+    set(39, 1000);
+    set(58, 1999);
+    set(59, 0x7FFF);
+    ROWS("causes, three MAC0s", encode_command(0x01, 1, 0), {16, 1, 5, 4292706369}, {16, 1, 6, 4292706369},
+         {16, 1, 7, 4292706369}, {14, 1, 5, 65501}, {13, 1, 6, 65501}, {12, 1, 7, 1048024});
+    fresh();
+    set(39, 1000);
+    set(59, (uint32_t)-0x8000);
+    set(58, 1999);
+    set(60, 0x80000000);
+    ROWS("causes, IR0 below 0", encode_command(0x01, 1, 0), {15, 1, 7, -6440321024}, {12, 1, 7, -1572344});
+    fresh(); /* rounded down */
+    set(39, 1);
+    set(56, 0xFBFFFFFF);
+    set(60, 0xFFFFFFFF);
+    ROWS("causes, rounded down", encode_command(0x01, 1, 0), {14, 1, 5, -0x401}, {12, 1, 7, -1});
+}
+
+static void other_causes(void)
+{
+    unsigned i;
+
+    fresh(); /* T-48 */
+    set(12, halves(-0x8000, -0x8000));
+    set(13, halves(0x7FFF, -0x8000));
+    set(14, halves(-0x8000, 0x7FFF));
+    ROWS("causes, NCLIP", encode_command(0x06, 0, 0), {16, 1, 1, 4294836225});
+    set(13, halves(-0x8000, 0x7FFF));
+    set(14, halves(0x7FFF, -0x8000));
+    ROWS("causes, NCLIP below", encode_command(0x06, 1, 1), {15, 1, 1, -4294836225});
+    equal("low word of a value below 0", cause_words[3], 0x0001FFFF);
+    equal("high word of a value below 0", cause_words[4], 0xFFFFFFFF);
+
+    fresh(); /* T-47: AVSZ4 has line 2 */
+    set(61, 0x7FFF);
+    set(62, 0x7FFF);
+    for (i = 16; i < 20; i++)
+        set(i, 0xFFFF);
+    ROWS("causes, AVSZ4", encode_command(0x2E, 0, 0), {18, 1, 3, 2097056}, {16, 1, 2, (int64_t)0x7FFF * 4 * 0xFFFF});
+    ROWS("causes, AVSZ3", encode_command(0x2D, 0, 0), {18, 1, 3, 1572792}, {16, 1, 1, (int64_t)0x7FFF * 3 * 0xFFFF});
+    set(61, 0x8000);
+    set(62, 0x8000);
+    ROWS("causes, AVSZ3 below", encode_command(0x2D, 1, 0), {18, 1, 3, -1572840}, {15, 1, 1, -(int64_t)0x8000 * 3 * 0xFFFF});
+    ROWS("causes, AVSZ4 below", encode_command(0x2E, 1, 0), {18, 1, 3, -2097120}, {15, 1, 2, -(int64_t)0x8000 * 4 * 0xFFFF});
+    fresh();
+    set(61, (uint32_t)-1);
+    set(17, 1);
+    ROWS("causes, OTZ rounded down", encode_command(0x2D, 0, 0), {18, 1, 3, -1});
+
+    fresh(); /* MVMVA: MAC on lines 1 to 3, IR on line 4 */
+    set(37, 0x80000000);
+    set(38, 0x7FFFFFFF);
+    set(39, 0x9000);
+    set(32, 1);
+    set(34, 0x1000);
+    set(0, halves(-1, 1));
+    ROWS("causes, MVMVA", encode_mvmva(1, 0, 0, 0, 0), {29, 1, 2, (int64_t)1 << 43}, {27, 1, 1, -((int64_t)1 << 43) - 1},
+         {24, 1, 4, 0x7FFFFFFF}, {23, 1, 4, -0x80000000LL}, {22, 1, 4, 0x9000});
+    fresh(); /* T-37: IR from the low 32 bits */
+    for (i = 40; i <= 44; i++)
+        set(i, 0x80008000);
+    set(0, 0x80008000);
+    set(1, 0x8000);
+    ROWS("causes, T-37", encode_mvmva(0, 1, 0, 3, 1), {24, 1, 4, -1073741824}, {23, 1, 4, -1073741824}, {22, 1, 4, -1073741824});
+    fresh(); /* T-41: FC; the whole sum, and IR of the third product */
+    set(32, halves(0x7FFF, 0x7FFF));
+    set(33, halves(0x1000, 0));
+    set(36, 0x7FFF);
+    set(0, halves(0x7FFF, 0x7FFF));
+    set(1, (uint32_t)-1);
+    set(53, 0x7FFFFFFF);
+    ROWS("causes, T-41", encode_mvmva(1, 0, 0, 2, 1), {30, 1, 1, 0x7FFFFFFFLL * 0x1000 + 2LL * 0x7FFF * 0x7FFF - 0x1000},
+         {24, 1, 4, -1}, {22, 1, 4, -8});
+    fresh(); /* matrix 3 and IR: IR0 is the third element */
+    set(8, 0x7FFF);
+    set(11, 0x7FFF);
+    ROWS("causes, matrix 3", encode_mvmva(1, 3, 3, 3, 0), {24, 1, 4, 0x7FFF * 0x7FFF >> 12});
+
+    fresh();
+    set(9, 0x7FFF);
+    set(11, 0x8000);
+    ROWS("causes, SQR", encode_command(0x28, 0, 1), {24, 1, 2, 0x3FFF0001}, {22, 1, 2, 0x40000000});
+    ROWS("causes, SQR sf 1", encode_command(0x28, 1, 1), {24, 1, 2, 0x3FFF0}, {22, 1, 2, 0x40000});
+    fresh();
+    set(9, 1);
+    set(36, 6);
+    set(11, 3);
+    set(32, 4);
+    ROWS("causes, OP", encode_command(0x0C, 0, 1), {23, 1, 2, -6});
+    rows_are("causes, OP lm 0", encode_command(0x0C, 0, 0), NULL, 0);
+}
+
+static void colour_causes(void)
+{
+    unsigned i;
+
+    fresh(); /* T-50: IR is limited on lines 2 and 6 */
+    set(45, 0x9000);
+    ROWS("causes, NCS", encode_command(0x1E, 1, 0), {24, 1, 2, 36864}, {24, 1, 6, 36864}, {21, 1, 6, 2304});
+    ROWS("causes, NCT", encode_command(0x20, 1, 0), {24, 1, 2, 36864}, {24, 1, 6, 36864}, {24, 2, 2, 36864}, {24, 2, 6, 36864},
+         {24, 3, 2, 36864}, {24, 3, 6, 36864}, {21, 1, 6, 2304}, {21, 2, 6, 2304}, {21, 3, 6, 2304});
+    ROWS("causes, NCCS", encode_command(0x1B, 1, 0), {24, 1, 2, 36864});
+    set(6, 0x000000FF);
+    ROWS("causes, NCCS with R FFh", encode_command(0x1B, 1, 0), {24, 1, 2, 36864}, {21, 1, 6, 0x7FFF * 0xFF >> 12});
+    fresh(); /* line 1, in the part of its vertex; BK brings line 2 within range */
+    set(43, 0x4000); /* L31 */
+    set(52, 0x8000); /* LB3 */
+    set(47, 0x40000);
+    set(4, 0x7000);
+    ROWS("causes, NCCT line 1", encode_command(0x3F, 1, 1), {22, 1, 2, 0x40000}, {22, 2, 2, 0x40000}, {22, 3, 1, 0x1C000});
+
+    fresh(); /* NCDS: FC-MAC on line 4 */
+    set(54, (uint32_t)-0x8001);
+    ROWS("causes, NCDS", encode_command(0x13, 1, 1), {23, 1, 4, -0x8001});
+    fresh(); /* a sum of line 4 that 44 bits cannot hold: b is -8000h * FFh * 10h */
+    set(45, (uint32_t)-0x8000);
+    set(53, 0x7FFFFFFF);
+    set(6, 0xFF);
+    ROWS("causes, NCDS line 4", encode_command(0x13, 1, 0), {30, 1, 4, 0x7FFFFFFFLL * 0x1000 + 0x8000 * 0xFF * 0x10},
+         {24, 1, 4, (-0x80000000LL * 0x1000 - 0x1000 + 0x8000 * 0xFF * 0x10) >> 12}, {21, 1, 6, -0x8000 * 0xFF >> 12});
+    ROWS("causes, CDP line 3", encode_command(0x14, 1, 0), {30, 1, 3, 0x7FFFFFFFLL * 0x1000 + 0x8000 * 0xFF * 0x10},
+         {24, 1, 3, (-0x80000000LL * 0x1000 - 0x1000 + 0x8000 * 0xFF * 0x10) >> 12}, {21, 1, 5, -0x8000 * 0xFF >> 12});
+    fresh(); /* the second and third vertex of NCDT */
+    set(40, 0x1000); /* L11 */
+    set(48, 0x1000); /* LR1 */
+    set(6, 0xFF);
+    set(53, 0x7FFF);
+    set(2, (uint32_t)-1 & 0xFFFF);
+    set(4, (uint32_t)-16 & 0xFFFF);
+    ROWS("causes, NCDT", encode_command(0x16, 1, 0), {24, 3, 4, (0x7FFF * 0x1000 + 16 * 0xFF * 0x10) >> 12}, {21, 2, 6, -1},
+         {21, 3, 6, -1});
+
+    fresh(); /* CC: lines 1 and 5 */
+    set(46, 0x7FFFFFFF);
+    set(50, 0x1000); /* LG2 */
+    set(10, 1);
+    set(6, 0x0000FF00);
+    ROWS("causes, CC", encode_command(0x1C, 1, 0), {29, 1, 1, (int64_t)1 << 43}, {23, 1, 1, -0x80000000LL},
+         {20, 1, 5, -0x8000 * 0xFF >> 12});
+
+    fresh(); /* T-38: DPCS, where 32 bits of FC-MAC are kept */
+    set(53, 0x100000);
+    set(6, 1);
+    set(8, 0x1000);
+    ROWS("causes, DPCS", encode_command(0x10, 0, 0), {24, 1, 4, -65536}, {24, 1, 6, -0x8000 * 0x1000 + 0x10000},
+         {21, 1, 6, (-0x8000 * 0x1000 + 0x10000) >> 4});
+    fresh(); /* T-39: INTPL */
+    set(9, 0x8000);
+    set(53, 0x7FFFFFFF);
+    set(8, 0x1000);
+    ROWS("causes, INTPL", encode_command(0x11, 1, 0), {30, 1, 4, ((int64_t)1 << 43) + 134213632}, {24, 1, 4, -2147450881},
+         {24, 1, 6, -65536}, {21, 1, 6, -4096});
+    fresh(); /* the far colour limited as lm = 0, the end by lm */
+    set(9, 0x100);
+    set(8, 0x1000);
+    set(53, (uint32_t)-0x80);
+    ROWS("causes, INTPL lm 1", encode_command(0x11, 1, 1), {24, 1, 6, -0x80}, {21, 1, 6, -8});
+    fresh(); /* DCPL */
+    set(9, 0x1000);
+    set(6, 0x40);
+    set(55, 0x80000000);
+    set(11, 1);
+    set(6, 0x00010000);
+    ROWS("causes, DCPL", encode_command(0x29, 1, 0), {25, 1, 4, -0x80000000LL * 0x1000 - 16}, {22, 1, 4, 0x7FFFFFFF});
+    fresh(); /* DPCT: each part has the colour that was RGB0, RGB1 and RGB2 */
+    set(20, 0x00000010);
+    set(21, 0x00000020);
+    set(22, 0x00000030);
+    set(53, 0x80000000);
+    ROWS("causes, DPCT", encode_command(0x2A, 1, 0), {27, 1, 4, -0x80000000LL * 0x1000 - 0x100000},
+         {27, 2, 4, -0x80000000LL * 0x1000 - 0x200000}, {27, 3, 4, -0x80000000LL * 0x1000 - 0x300000},
+         {24, 1, 4, 0x7FFFFFFF - 0xFF}, {24, 2, 4, 0x7FFFFFFF - 0x1FF}, {24, 3, 4, 0x7FFFFFFF - 0x2FF});
+
+    fresh(); /* T-40: GPL */
+    set(25, 0x7FFFFFFF);
+    set(9, 1);
+    set(8, 1);
+    ROWS("causes, GPL sf 0", encode_command(0x3E, 0, 0), {24, 1, 4, -0x80000000LL}, {21, 1, 4, -0x8000000});
+    set(9, 0x1000);
+    ROWS("causes, GPL", encode_command(0x3E, 1, 0), {30, 1, 3, (int64_t)1 << 43}, {24, 1, 4, -0x80000000LL},
+         {21, 1, 4, -0x8000000});
+    ROWS("causes, GPF", encode_command(0x3D, 0, 0), {21, 1, 4, 0x100});
+    fresh(); /* T-49: rounded down */
+    set(25, (uint32_t)-1);
+    set(27, 4096);
+    ROWS("causes, GPL colours", encode_command(0x3E, 0, 0), {21, 1, 4, -1}, {19, 1, 4, 256});
+    fresh(); /* all that DPCT can have: in each part bits 27..19, and 24..22 on both lines */
+    for (i = 20; i < 23; i++) {
+        set(i, 0x00FFFFFF);
+        set(i + 33, 0x80000000);
+    }
+    set(8, 0x7FFF);
+    equal("causes, DPCT of white", ask(encode_command(0x2A, 0, 1), CAUSE_SPACE).number, 5 * 3 * 12);
+}
+
+static void causes(void)
+{
+    perspective_causes();
+    other_causes();
+    colour_causes();
+}
+
+/* Three rows, with the space that they need, more, and less. */
+static void cause_spaces(void)
+{
+    const uint32_t ncs = encode_command(0x1E, 1, 0);
+    size_t space;
+
+    fresh();
+    set(45, 0x9000);
+    for (space = 0; space < 15; space++)
+        answers("too few words", ask(ncs, space), MODEL_SPACE, 15);
+    for (space = 15; space < 40; space++) {
+        answers("words enough", ask(ncs, space), MODEL_DONE, 15);
+        equal("words enough, the last", cause_words[14], 0);
+        equal("words enough, the last but one", cause_words[13], 2304);
+    }
+    fresh();
+    answers("no word for no row", ask(ncs, 0), MODEL_DONE, 0);
+    answers("some words for no row", ask(ncs, 7), MODEL_DONE, 0);
+}
+
+static void cause_refusals(void)
+{
+    const uint32_t ncs = encode_command(0x1E, 1, 0), unlisted = 0x4A000000;
+    static const size_t lengths[] = {0, 1, 428, 431, 433, 436, 452};
+    uint32_t before[MODEL_IMAGE_WORDS];
+    unsigned number, i;
+
+    fresh();
+    set(45, 0x9000);
+    for (i = 0; i < sizeof lengths / sizeof *lengths; i++) {
+        answers("causes, length", ask_length(lengths[i], ncs, 100), MODEL_IMAGE_LENGTH, 0);
+        answers("causes, length before unlisted", ask_length(lengths[i], unlisted, 100), MODEL_IMAGE_LENGTH, 0);
+        answers("causes, length before space", ask_length(lengths[i], ncs, 0), MODEL_IMAGE_LENGTH, 0);
+    }
+    word[0] = 1;
+    answers("causes, length before form", ask_length(431, unlisted, 0), MODEL_IMAGE_LENGTH, 0);
+    answers("causes, form", ask(ncs, 100), MODEL_IMAGE_FORM, 0);
+    answers("causes, form before unlisted", ask(unlisted, 100), MODEL_IMAGE_FORM, 0);
+    answers("causes, form before space", ask(ncs, 0), MODEL_IMAGE_FORM, 0);
+    word[0] = 0;
+    answers("causes, unlisted", ask(unlisted, 100), MODEL_UNLISTED, 0);
+    answers("causes, unlisted without space", ask(unlisted, 0), MODEL_UNLISTED, 0);
+    answers("causes, space", ask(ncs, 14), MODEL_SPACE, 15);
+
+    for (number = 0; number < 64; number++) {
+        bool is_listed = false;
+
+        for (i = 0; i < sizeof listed_commands; i++)
+            is_listed |= listed_commands[i] == number;
+        fresh();
+        equal("causes, command listed", ask(encode_command(number, 1, 0), CAUSE_SPACE).code,
+              is_listed ? MODEL_DONE : MODEL_UNLISTED);
+    }
+
+    for (i = 0; i < 128; i++) { /* the top seven bits are ignored */
+        fresh();
+        set(45, 0x9000);
+        ROWS("causes, top bits", i << 25 | (ncs & 0x01FFFFFF), {24, 1, 2, 36864}, {24, 1, 6, 36864}, {21, 1, 6, 2304});
+    }
+    for (i = 0; i < 25; i++) { /* and so are bits 24..20, 12..11 and 9..6; NCS has no use for 18..13 */
+        if (i >= 20 || (i >= 11 && i < 19) || (i >= 6 && i < 10))
+            ROWS("causes, bits of no meaning", ncs ^ 1u << i, {24, 1, 2, 36864}, {24, 1, 6, 36864}, {21, 1, 6, 2304});
+    }
+    word[SR] = 0; /* COP2 not usable */
+    ROWS("causes, CU2 clear", ncs, {24, 1, 2, 36864}, {24, 1, 6, 36864}, {21, 1, 6, 2304});
+    word[SR] = 0xF24FFF3F;
+    ROWS("causes, SR full", ncs, {24, 1, 2, 36864}, {24, 1, 6, 36864}, {21, 1, 6, 2304});
+    set(63, 0x7FFFF000); /* FLAG is cleared as the command begins */
+    word[WAIT] = 7;
+    word[WAITING] = 9;
+    word[SLOT] = 1;
+    memcpy(before, word, sizeof word);
+    ROWS("causes, FLAG full", ncs, {24, 1, 2, 36864}, {24, 1, 6, 36864}, {21, 1, 6, 2304});
+    equal("causes change no machine", memcmp(before, word, sizeof word), 0);
+}
+
+/* A word for a register: at an edge more often than not. */
+static uint32_t random_register(unsigned style)
+{
+    static const uint32_t edges[] = {0, 1, 0xFFFFFFFF, 0x7FFF7FFF, 0x80008000, 0x7FFFFFFF, 0x80000000, 0x1000, 0x0FFF, 0xFFFF};
+
+    switch (style) {
+    case 0: return random_below(0x10000) << 16 | random_below(0x10000);
+    case 1: return edges[random_below(sizeof edges / sizeof *edges)];
+    case 2: return random_below(0x800) | random_below(0x800) << 16;
+    default: return random_below(2) ? edges[random_below(sizeof edges / sizeof *edges)] : random_below(0x2000);
+    }
+}
+
+/* Whether the value of a row is outside the range that its bit stands for, for IR1..3 the smaller one if lm is set. */
+static bool out_of_range(const uint32_t *row, bool lm)
+{
+    int64_t value = (int64_t)((uint64_t)row[4] << 32 | row[3]), wide = (int64_t)1 << 43;
+
+    switch (row[0]) {
+    case 30: case 29: case 28: return value >= wide;
+    case 27: case 26: case 25: return value < -wide;
+    case 24: case 23: case 22: return value > 0x7FFF || value < (lm ? 0 : -0x8000);
+    case 21: case 20: case 19: return value < 0 || value > 0xFF;
+    case 18: return value < 0 || value > 0xFFFF;
+    case 17: return row[3] <= 0xFFFF && row[4] <= 0xFFFF && row[3] >= 2 * row[4];
+    case 16: return value > INT32_MAX;
+    case 15: return value < INT32_MIN;
+    case 14: case 13: return value < -0x400 || value > 0x3FF;
+    case 12: return value < 0 || value > 0x1000;
+    default: return false;
+    }
+}
+
+/* The rows and model_command, which were written apart: the bits of FLAG have rows, in order, and no others. */
+static void causes_of_random_commands(void)
+{
+    static const uint8_t triples[] = {0x16, 0x20, 0x2A, 0x30, 0x3F};
+    uint32_t all_bits = 0, most = 0, parts = 0, i, k;
+    unsigned different = 0, unordered = 0, inside = 0, odd = 0;
+
+    for (i = 0; i < 200000; i++) {
+        uint32_t instruction = random_below(0x10000) << 16 | random_below(0x10000), style = random_below(4), bits = 0;
+        struct model machine = {0};
+        uint8_t image[MODEL_IMAGE_BYTES];
+        struct model_answer a;
+        uint32_t last_part = 1;
+
+        instruction = (instruction & ~0x3Fu) | listed_commands[i % sizeof listed_commands];
+        for (k = 0; k < 64; k++)
+            model_cop2_write(&machine, k, random_register(style));
+        model_store(&machine, image);
+        a = model_causes(image, sizeof image, instruction, cause_words, CAUSE_SPACE);
+        model_command(&machine, instruction);
+        for (k = 0; k < sizeof triples; k++)
+            if (triples[k] == (instruction & 0x3F))
+                last_part = 3;
+        odd += a.code != MODEL_DONE || a.number % 5 != 0 || a.number > 5 * MODEL_MOST_CAUSES;
+        for (k = 0; k < a.number; k += 5) {
+            const uint32_t *row = cause_words + k;
+            uint32_t place = (30 - row[0]) << 8 | row[1] << 4 | row[2];
+
+            odd += row[1] < 1 || row[1] > last_part || row[2] < 1 || row[2] > 7;
+            inside += !out_of_range(row, instruction >> 10 & 1);
+            unordered += k > 0 && place <= ((30 - row[-5]) << 8 | row[-4] << 4 | row[-3]);
+            bits |= 1u << row[0];
+            parts |= 1u << row[1];
+        }
+        different += bits != (machine.cop2[63] & 0x7FFFF000);
+        all_bits |= bits;
+        if (a.number > most)
+            most = (uint32_t)a.number;
+    }
+    equal("rows have the bits of FLAG", different, 0);
+    equal("rows stand in order", unordered, 0);
+    equal("values are out of range", inside, 0);
+    equal("answers, parts and lines", odd, 0);
+    equal("every bit has a row", all_bits, 0x7FFFF000);
+    equal("every part has a row", parts, 2 | 4 | 8);
+    equal("many rows", most > 5 * 40, true);
+}
+
 /* ---- The disassembler -------------------------------------------------------- */
 
 static void text(uint32_t instruction, const char *expected)
@@ -2002,6 +2525,10 @@ int main(void)
     cop2_registers();
     gte();
     demand_3();
+    causes();
+    cause_spaces();
+    cause_refusals();
+    causes_of_random_commands();
     disassembler();
     printf("%d passed, %d failed\n", passed, failed);
     return failed != 0;
