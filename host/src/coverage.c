@@ -1,5 +1,6 @@
 #include "coverage.h"
 
+#include "causes.h"
 #include "disassemble.h"
 #include "encode.h"
 #include "model.h"
@@ -56,6 +57,41 @@ static const struct {
 
 #define COMMANDS (sizeof commands / sizeof *commands)
 
+/* The lines of 001's formulas on which a bit can have a cause at all, by the widths of their operands. */
+static const struct {
+    uint8_t numbers[10]; /* of the commands that share the line */
+    uint32_t line, bits;
+} cause_lines[] = {
+    {{0x01, 0x30}, 1, 0x49000000}, /* MAC1 and IR1 */
+    {{0x01, 0x30}, 2, 0x24800000},
+    {{0x01, 0x30}, 3, 0x12400000},
+    {{0x01, 0x30}, 4, 0x00040000}, /* SZ3 */
+    {{0x01, 0x30}, 5, 0x0003C000}, /* the quotient, MAC0 and SX */
+    {{0x01, 0x30}, 6, 0x0001A000},
+    {{0x01, 0x30}, 7, 0x00019000},
+    {{0x06, 0x2D}, 1, 0x00018000}, /* NCLIP, AVSZ3 */
+    {{0x2E}, 2, 0x00018000},
+    {{0x2D, 0x2E}, 3, 0x00040000}, /* OTZ */
+    {{0x12}, 1, 0x48000000},
+    {{0x12}, 2, 0x24000000},
+    {{0x12}, 3, 0x12000000},
+    {{0x12}, 4, IR_BITS},
+    {{0x0C, 0x28}, 2, IR_BITS},
+    {{0x1E, 0x20, 0x1B, 0x3F, 0x13, 0x16}, 1, IR_BITS}, /* LLM*V cannot leave 44 bits */
+    {{0x1E, 0x20, 0x1B, 0x3F, 0x13, 0x16}, 2, MAC_OVER | MAC_UNDER | IR_BITS},
+    {{0x13, 0x16, 0x29, 0x11}, 4, MAC_OVER | MAC_UNDER | IR_BITS}, /* FC-MAC */
+    {{0x10, 0x2A}, 4, MAC_UNDER | IR_BITS},
+    {{0x1E, 0x20, 0x1B, 0x3F, 0x13, 0x16, 0x29, 0x11, 0x10, 0x2A}, 6, IR_BITS | COLOUR_BITS},
+    {{0x1C, 0x14}, 1, MAC_OVER | MAC_UNDER | IR_BITS},
+    {{0x14}, 3, MAC_OVER | MAC_UNDER | IR_BITS},
+    {{0x1C, 0x14}, 5, IR_BITS | COLOUR_BITS},
+    {{0x3E}, 3, MAC_OVER | MAC_UNDER},
+    {{0x3D, 0x3E}, 4, IR_BITS | COLOUR_BITS},
+};
+
+#define CAUSE_LINES (sizeof cause_lines / sizeof *cause_lines)
+#define LINES 8 /* from 1 on */
+
 enum { LANDED, LANDED_BY_EXCEPTION, DROPPED_BY_WRITE, DROPPED_BY_LOAD, MERGED, LOAD_EVENTS };
 
 static const char *const event_names[LOAD_EVENTS] = {"landed", "landed by an exception", "dropped by a write",
@@ -66,6 +102,14 @@ enum { NOT_EMPTY, LENGTH_0_IN_RAM, LENGTH_0_ELSEWHERE, BAD_RAM_LENGTH, STARTS_OU
 
 static const char *const window_names[WINDOW_KINDS] = {"not empty", "length 0 in RAM", "length 0 elsewhere",
                                                        "bad RAM length", "starts outside RAM", "ends outside RAM"};
+
+/* The words lent to a question, beside those that its rows need. */
+enum { SHORT_BY_1, SHORT_BY_5 = SHORT_BY_1 + 4, NO_WORD, JUST_ENOUGH, MORE_WORDS, NO_ROW_NO_WORD, NO_ROW_SOME_WORDS, SPACE_KINDS };
+
+static const char *const space_names[SPACE_KINDS] = {
+    "1 word too few", "2 words too few", "3 words too few", "4 words too few", "5 words too few", "no word for some rows",
+    "just enough words", "more words than needed", "no word for no row", "some words for no row",
+};
 
 /* What RTPS and RTPT divided: SZ3 by its leading zeros, and the limit with and without bit 17. */
 enum { LIMIT_UNFLAGGED = 16, LIMIT_FLAGGED, QUOTIENT_KINDS };
@@ -100,6 +144,10 @@ static uint64_t load_events[LOAD_EVENTS];
 static uint64_t windows[WINDOW_KINDS];
 static uint64_t quotients[QUOTIENT_KINDS], table_entries[TABLE_ENTRIES];
 static uint64_t perspectives[2 * BITS_LEFT];
+static uint64_t question_codes[MODEL_SPACE + 1], spaces[SPACE_KINDS];
+static uint64_t question_forms[COMMANDS][4], question_mvmva_forms[256]; /* by sf and lm; by sf, mx, v, cv, lm */
+static uint64_t causes[COMMANDS][3][LINES][31]; /* by part, line and bit */
+static uint64_t impossible_causes[COMMANDS];
 
 static int find_index(uint32_t word)
 {
@@ -252,6 +300,68 @@ static void count_window(const struct window *w)
         windows[ends ? NOT_EMPTY : starts ? ENDS_OUTSIDE : STARTS_OUTSIDE]++;
 }
 
+/* Whether line k of the table is one of the command's. */
+static bool has_line(uint32_t number, unsigned k)
+{
+    return memchr(cause_lines[k].numbers, (int)number, sizeof cause_lines[k].numbers) != NULL;
+}
+
+static bool cause_possible(uint32_t number, uint32_t line, uint32_t bit)
+{
+    unsigned k;
+
+    for (k = 0; k < CAUSE_LINES; k++)
+        if (has_line(number, k) && cause_lines[k].line == line && cause_lines[k].bits >> bit & 1)
+            return true;
+    return false;
+}
+
+static void count_rows(uint32_t command, const uint32_t *words, size_t length)
+{
+    uint32_t number = command & 0x3F, sf = command >> 19 & 1, lm = command >> 10 & 1;
+    const uint32_t *row;
+    unsigned i;
+
+    for (i = 0; commands[i].number != number; i++)
+        ;
+    question_forms[i][2 * sf + lm]++;
+    if (number == 0x12)
+        question_mvmva_forms[(command >> 13 & 0x7F) | lm << 7]++;
+    for (row = words; row < words + length; row += MODEL_CAUSE_WORDS)
+        if (cause_possible(number, row[2], row[0]))
+            causes[i][row[1] - 1][row[2]][row[0]]++;
+        else
+            impossible_causes[i]++;
+}
+
+static void count_space(const struct question *q, size_t needed)
+{
+    size_t space = question_space(q, needed);
+
+    if (needed == 0)
+        spaces[space == 0 ? NO_ROW_NO_WORD : NO_ROW_SOME_WORDS]++;
+    else if (space >= needed)
+        spaces[space == needed ? JUST_ENOUGH : MORE_WORDS]++;
+    else if (needed - space <= 5)
+        spaces[SHORT_BY_1 + (needed - space - 1)]++;
+    if (needed != 0 && space == 0)
+        spaces[NO_WORD]++;
+}
+
+static void count_question(const struct test_case *c, const struct question *q)
+{
+    uint32_t words[MODEL_CAUSE_WORDS * MODEL_MOST_CAUSES];
+    struct model_answer a = model_causes(c->image, c->image_length, q->command, words, sizeof words / sizeof *words);
+
+    if (a.code != MODEL_DONE) {
+        question_codes[a.code]++;
+        return;
+    }
+    question_codes[question_space(q, (size_t)a.number) < a.number ? MODEL_SPACE : MODEL_DONE]++;
+    count_space(q, (size_t)a.number);
+    count_rows(q->command, words, (size_t)a.number);
+}
+
 static void walk(struct test_case *c, uint64_t steps)
 {
     struct model machine, before;
@@ -291,6 +401,8 @@ void coverage_add(struct test_case *c, const struct case_answers *answers)
     search_codes[answers->search / MODEL_CODE_UNIT]++;
     for (i = 0; i < CASE_WINDOWS; i++)
         count_window(&c->windows[i]);
+    for (i = 0; i < CASE_QUESTIONS; i++)
+        count_question(c, &c->questions[i]);
     if (code == MODEL_DONE || code == MODEL_UNLISTED)
         walk(c, answers->run % MODEL_CODE_UNIT);
 }
@@ -320,7 +432,7 @@ static void tally(struct tally *t, bool reached, const char *format, ...)
 enum {
     ALL_INSTRUCTIONS, ALL_COMMANDS, ALL_FORMS, ALL_MVMVA, BITS_SET, BITS_CLEAR, BITS_IMPOSSIBLE, OUTSIDE_SLOTS,
     IN_SLOTS, ALL_EVENTS, RUN_CODES, SEARCH_CODES, ALL_WINDOWS, ALL_QUOTIENTS,
-    ALL_ENTRIES, ALL_PERSPECTIVES, TALLIES
+    ALL_ENTRIES, ALL_PERSPECTIVES, QUESTION_CODES, ALL_SPACES, QUESTION_FORMS, ALL_CAUSES, CAUSES_IMPOSSIBLE, TALLIES
 };
 
 static void tally_instructions(struct tally *t)
@@ -369,6 +481,51 @@ static void tally_commands(struct tally *t)
         tally(&t[ALL_MVMVA], mvmva_forms[i] != 0, "%08x", 0x4A000012 | (i & 0x7F) << 13 | (i >> 7) << 10);
 }
 
+static bool is_triple(uint32_t number)
+{
+    return number == 0x16 || number == 0x20 || number == 0x2A || number == 0x30 || number == 0x3F;
+}
+
+/* Every bit on every line where it can have a cause, in each part. */
+static void tally_causes(struct tally *t)
+{
+    unsigned i, k, part, bit;
+
+    for (i = 0; i < COMMANDS; i++) {
+        const char *name = gte_command_name(commands[i].number);
+        unsigned parts = is_triple(commands[i].number) ? 3 : 1;
+
+        for (k = 0; k < CAUSE_LINES; k++)
+            if (has_line(commands[i].number, k))
+                for (part = 0; part < parts; part++)
+                    for (bit = 12; bit < 31; bit++)
+                        if (cause_lines[k].bits >> bit & 1)
+                            tally(t, causes[i][part][cause_lines[k].line][bit] != 0, "bit %u on line %u of %s, part %u", bit,
+                                  cause_lines[k].line, name, part + 1);
+    }
+}
+
+static void tally_questions(struct tally *t)
+{
+    static const unsigned codes[] = {MODEL_DONE, MODEL_IMAGE_LENGTH, MODEL_IMAGE_FORM, MODEL_UNLISTED, MODEL_SPACE};
+    unsigned i, form;
+
+    for (i = 0; i < sizeof codes / sizeof *codes; i++)
+        tally(&t[QUESTION_CODES], question_codes[codes[i]] != 0, "%u", codes[i]);
+    for (i = 0; i < SPACE_KINDS; i++)
+        tally(&t[ALL_SPACES], spaces[i] != 0, "%s", space_names[i]);
+    for (i = 0; i < COMMANDS; i++) {
+        const char *name = gte_command_name(commands[i].number);
+
+        for (form = 0; form < 4; form++)
+            tally(&t[QUESTION_FORMS], question_forms[i][form] != 0, "%s with sf %u, lm %u", name, form >> 1, form & 1);
+        tally(&t[CAUSES_IMPOSSIBLE], impossible_causes[i] == 0, "%s", name);
+    }
+    for (i = 0; i < 256; i++)
+        tally(&t[QUESTION_FORMS], question_mvmva_forms[i] != 0, "%08x", 0x4A000012 | (i & 0x7F) << 13 | (i >> 7) << 10);
+    tally_causes(&t[ALL_CAUSES]);
+}
+
 static void tally_all(struct tally t[TALLIES])
 {
     static const char *const kinds[TALLIES] = {
@@ -388,6 +545,11 @@ static void tally_all(struct tally t[TALLIES])
         [ALL_QUOTIENTS] = "kinds of quotients",
         [ALL_ENTRIES] = "entries of the division's table",
         [ALL_PERSPECTIVES] = "kinds of perspective commands",
+        [QUESTION_CODES] = "codes of the causes",
+        [ALL_SPACES] = "kinds of words lent for causes",
+        [QUESTION_FORMS] = "forms of commands asked for causes",
+        [ALL_CAUSES] = "causes by command, part, line and bit",
+        [CAUSES_IMPOSSIBLE] = "commands with no cause on a line where none can be",
     };
     unsigned i;
 
@@ -415,6 +577,7 @@ static void tally_all(struct tally t[TALLIES])
         tally(&t[ALL_ENTRIES], table_entries[i] != 0, "%u", i);
     for (i = 0; i < 2 * BITS_LEFT; i++)
         tally(&t[ALL_PERSPECTIVES], perspectives[i] != 0, "%s", perspective_names[i]);
+    tally_questions(t);
 }
 
 const char *coverage_missing(void)
@@ -469,6 +632,27 @@ static void print_flags(void)
     }
 }
 
+/* The parts of a triple together. */
+static void print_causes(void)
+{
+    unsigned i, k, bit;
+
+    printf("causes by bit:\n");
+    for (i = 0; i < COMMANDS; i++)
+        for (k = 0; k < CAUSE_LINES; k++) {
+            uint64_t (*part)[LINES][31] = causes[i];
+            uint32_t line = cause_lines[k].line;
+
+            if (!has_line(commands[i].number, k))
+                continue;
+            printf("  %-6s line %u", gte_command_name(commands[i].number), (unsigned)line);
+            for (bit = 30; bit >= 12; bit--)
+                if (cause_lines[k].bits >> bit & 1)
+                    printf("  %u: %llu", bit, (unsigned long long)(part[0][line][bit] + part[1][line][bit] + part[2][line][bit]));
+            printf("\n");
+        }
+}
+
 static void print_codes(const char *call, const uint64_t *codes, unsigned last)
 {
     unsigned i;
@@ -505,6 +689,9 @@ void coverage_print(void)
     print_names("waiting loads", event_names, load_events, LOAD_EVENTS);
     print_codes("run", run_codes, MODEL_UNLISTED);
     print_codes("search", search_codes, MODEL_FLAG_UP);
+    print_codes("causes", question_codes, MODEL_SPACE);
+    print_names("words lent for causes", space_names, spaces, SPACE_KINDS);
+    print_causes();
     print_names("windows", window_names, windows, WINDOW_KINDS);
     print_names("quotients", quotient_names, quotients, QUOTIENT_KINDS);
     print_names("perspective commands with sf 1", perspective_names, perspectives, 2 * BITS_LEFT);

@@ -1,6 +1,7 @@
 /*
  * Differential test: random cases through the library and through the model.
- * Each is run, searched for a bit of FLAG, and asked for windows of RAM.
+ * Each is run, searched for a bit of FLAG, and asked for windows of RAM and for
+ * the causes of FLAG's bits.
  *
  *   fuzz N SEED [--coverage] [--whole] [--case K]
  *
@@ -10,6 +11,7 @@
  */
 #define _DEFAULT_SOURCE
 
+#include "causes.h"
 #include "coverage.h"
 #include "disassemble.h"
 #include "generate.h"
@@ -99,17 +101,29 @@ static bool guards_intact(const struct buffer *b)
 
 typedef uint64_t run_function(uint8_t *, size_t, uint8_t *, size_t, uint64_t);
 typedef uint64_t find_flag_function(uint8_t *, size_t, uint8_t *, size_t, uint64_t, uint32_t);
+typedef struct model_answer causes_function(const uint8_t *, size_t, uint32_t, uint32_t *, size_t);
 
 struct side {
     run_function *run;
     find_flag_function *find_flag;
-    struct area image_area, ram_area;
-    struct buffer image, ram;
+    causes_function *causes;
+    struct area image_area, ram_area, words_area;
+    struct buffer image, ram, words;
     uint64_t answer;
+    struct model_answer causes_answer;
 };
 
-static struct side library = {.run = fliskadee_run, .find_flag = fliskadee_find_flag};
-static struct side model = {.run = model_run, .find_flag = model_find_flag};
+/* With the answer as the model's. */
+static struct model_answer library_causes(const uint8_t *image, size_t image_length, uint32_t command, uint32_t *words,
+                                          size_t words_length)
+{
+    struct fliskadee_answer a = fliskadee_causes(image, image_length, command, words, words_length);
+
+    return (struct model_answer){a.code, a.number};
+}
+
+static struct side library = {.run = fliskadee_run, .find_flag = fliskadee_find_flag, .causes = library_causes};
+static struct side model = {.run = model_run, .find_flag = model_find_flag, .causes = model_causes};
 
 /* A call on a machine: the run, or the search with a mask. */
 struct call {
@@ -307,6 +321,40 @@ static bool report_window(const struct window *w, const char *what, uint64_t got
     return false;
 }
 
+static const uint32_t *words_of(const struct side *s)
+{
+    return (const uint32_t *)(const void *)s->words.bytes;
+}
+
+static void print_causes(const char *name, const struct side *s)
+{
+    size_t lent = s->words.length / 4, i;
+
+    printf("  %s: code %llu, number %llu\n", name, (unsigned long long)s->causes_answer.code,
+           (unsigned long long)s->causes_answer.number);
+    for (i = 0; i + 5 <= lent && i < s->causes_answer.number && s->causes_answer.code == MODEL_DONE; i += 5) {
+        const uint32_t *row = words_of(s) + i;
+
+        printf("    bit %u, part %u, line %u, %08x %08x\n", (unsigned)row[0], (unsigned)row[1], (unsigned)row[2],
+               (unsigned)row[3], (unsigned)row[4]);
+    }
+}
+
+static bool report_question(const struct test_case *c, const struct question *q, const char *what)
+{
+    char text[80];
+
+    disassemble(0x4A000000 | (q->command & 0x01FFFFFF), 0, text, sizeof text);
+    printf("DIFFERENCE\nseed %llu, case %llu: %s; causes of %08x (%s), image of %zu bytes, %zu words lent\n  %s\n",
+           (unsigned long long)seed, (unsigned long long)case_number, c->kind, (unsigned)q->command, text, c->image_length,
+           library.words.length / 4, what);
+    print_causes("library", &library);
+    print_causes("model", &model);
+    if (c->image_length == MODEL_IMAGE_BYTES)
+        print_state(&model);
+    return false;
+}
+
 /* The library touched a page outside its buffers, or trapped. */
 static void on_signal(int number)
 {
@@ -397,6 +445,51 @@ static bool check_window(const struct test_case *c, const struct window *w)
     return true;
 }
 
+/* What a lent word holds before the question. */
+static uint32_t unused_word(size_t number)
+{
+    return 0x9E3779B9 * (uint32_t)(number + case_number);
+}
+
+/* Sets the side's image to the case's, lends so many words, and asks. Words are aligned, as C wants them. */
+static void ask_side(struct side *s, const struct test_case *c, uint32_t command, size_t space)
+{
+    uint32_t *words;
+    size_t i;
+
+    s->image = place(&s->image_area, c->image_length, c->placement);
+    s->words = place(&s->words_area, 4 * space, c->placement >> 40 & ~(uint64_t)12);
+    memcpy(s->image.bytes, c->image, c->image_length);
+    words = (uint32_t *)(void *)s->words.bytes;
+    for (i = 0; i < space; i++)
+        words[i] = unused_word(i);
+    s->causes_answer = s->causes(s->image.bytes, s->image.length, command, words, space);
+}
+
+/* The two agree, and the library wrote its rows and nothing else. */
+static bool check_question(const struct test_case *c, const struct question *q)
+{
+    size_t needed, space, i;
+
+    ask_side(&model, c, q->command, 0);
+    needed = (size_t)model.causes_answer.number;
+    space = question_space(q, needed);
+    ask_side(&model, c, q->command, space);
+    ask_side(&library, c, q->command, space);
+    if (library.causes_answer.code != model.causes_answer.code || library.causes_answer.number != model.causes_answer.number)
+        return report_question(c, q, "the answers differ");
+    if (!same_bytes(&library.words, &model.words))
+        return report_question(c, q, "the words differ");
+    for (i = library.causes_answer.code == MODEL_DONE ? needed : 0; i < space; i++)
+        if (words_of(&library)[i] != unused_word(i))
+            return report_question(c, q, "a word that is no row's was changed");
+    if (!guards_intact(&library.words) || !guards_intact(&library.image))
+        return report_question(c, q, "the library wrote outside the words");
+    if (memcmp(library.image.bytes, c->image, c->image_length) != 0)
+        return report_question(c, q, "the image was changed");
+    return true;
+}
+
 /* answers takes what the run and the search answered. */
 static bool check_case(const struct test_case *c, struct case_answers *answers)
 {
@@ -411,6 +504,9 @@ static bool check_case(const struct test_case *c, struct case_answers *answers)
     answers->search = model.answer;
     for (i = 0; i < CASE_WINDOWS; i++)
         if (!check_window(c, &c->windows[i]))
+            return false;
+    for (i = 0; i < CASE_QUESTIONS; i++)
+        if (!check_question(c, &c->questions[i]))
             return false;
     return true;
 }
@@ -463,8 +559,10 @@ static void prepare(void)
 
     library.image_area = make_area(CASE_IMAGE_CAPACITY);
     library.ram_area = make_area(CASE_RAM_CAPACITY);
+    library.words_area = make_area(4 * QUESTION_CAPACITY);
     model.image_area = make_area(CASE_IMAGE_CAPACITY);
     model.ram_area = make_area(CASE_RAM_CAPACITY);
+    model.words_area = make_area(4 * QUESTION_CAPACITY);
     for (i = 0; i < sizeof signals / sizeof *signals; i++)
         signal(signals[i], on_signal);
 }
@@ -490,7 +588,8 @@ int main(int argc, char **argv)
         steps += answers.run % MODEL_CODE_UNIT;
         if (walking) {
             coverage_add(&c, &answers);
-            walking = o.coverage || coverage_missing(); /* to save time, as it takes longer than the case */
+            if (!o.coverage && ran % 64 == 0) /* to save time, as both take longer than the case */
+                walking = coverage_missing() != NULL;
         }
     }
     if (o.coverage)

@@ -984,6 +984,36 @@ static void random_windows(struct random *r, struct test_case *c)
     }
 }
 
+/* ---- Questions for causes ------------------------------------------------------- */
+
+#define NO_SPACE (-QUESTION_CAPACITY) /* more than any rows need */
+
+static void random_questions(struct random *r, struct test_case *c)
+{
+    struct question *q;
+
+    for (q = c->questions; q < c->questions + CASE_QUESTIONS; q++) {
+        q->command = random_word(r);
+        if (chance(r, 92))
+            q->command = (q->command & ~0x3Fu) | PICK(r, listed_commands);
+        switch (below(r, 8)) {
+        case 0: case 1: q->spare = 0; break;
+        case 2: q->spare = 1 + (int32_t)below(r, 20); break;
+        case 3: q->spare = NO_SPACE; break;
+        default: q->spare = -1 - (int32_t)below(r, 5); break;
+        }
+    }
+}
+
+size_t question_space(const struct question *q, size_t needed)
+{
+    int64_t space = (int64_t)needed + q->spare;
+
+    if (needed == 0) /* no row, or a refusal: it cannot be too few, so let it be some */
+        return (size_t)(q->spare < 0 ? -q->spare : q->spare);
+    return space < 0 ? 0 : (size_t)space;
+}
+
 void generate_case(struct test_case *c, uint64_t seed, uint64_t number)
 {
     struct random random, *r = &random;
@@ -1006,4 +1036,5 @@ void generate_case(struct test_case *c, uint64_t seed, uint64_t number)
     c->mask = random_mask(r);
     c->search_count = random_search_count(r, c->count);
     random_windows(r, c);
+    random_questions(r, c);
 }

@@ -27,6 +27,15 @@ struct window {
 
 #define CASE_WINDOWS 8
 
+/* What the causes of FLAG's bits are asked for, on the case's image. */
+struct question {
+    uint32_t command;
+    int32_t spare; /* words lent beyond those that the rows need; below 0, too few */
+};
+
+#define CASE_QUESTIONS 3
+#define QUESTION_CAPACITY 1000 /* words */
+
 struct test_case {
     const char *kind;
     uint8_t *image; /* room for CASE_IMAGE_CAPACITY bytes */
@@ -39,8 +48,12 @@ struct test_case {
     enum expectation expected;
     uint64_t placement; /* random bits for where the buffers lie and where a run is cut in two */
     struct window windows[CASE_WINDOWS];
+    struct question questions[CASE_QUESTIONS];
 };
 
 void generate_case(struct test_case *c, uint64_t seed, uint64_t number);
+
+/* The words that the question lends where its rows need so many, at most QUESTION_CAPACITY. */
+size_t question_space(const struct question *q, size_t needed);
 
 #endif
