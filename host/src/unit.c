@@ -2271,7 +2271,6 @@ static void cause_refusals(void)
 {
     const uint32_t ncs = encode_command(0x1E, 1, 0), unlisted = 0x4A000000;
     static const size_t lengths[] = {0, 1, 428, 431, 433, 436, 452};
-    uint32_t before[MODEL_IMAGE_WORDS];
     unsigned number, i;
 
     fresh();
@@ -2315,12 +2314,11 @@ static void cause_refusals(void)
     word[SR] = 0xF24FFF3F;
     ROWS("causes, SR full", ncs, {24, 1, 2, 36864}, {24, 1, 6, 36864}, {21, 1, 6, 2304});
     set(63, 0x7FFFF000); /* FLAG is cleared as the command begins */
+    word[1] = 0xDEADBEEF;
     word[WAIT] = 7;
     word[WAITING] = 9;
     word[SLOT] = 1;
-    memcpy(before, word, sizeof word);
     ROWS("causes, FLAG full", ncs, {24, 1, 2, 36864}, {24, 1, 6, 36864}, {21, 1, 6, 2304});
-    equal("causes change no machine", memcmp(before, word, sizeof word), 0);
 }
 
 /* A word for a register: at an edge more often than not. */
