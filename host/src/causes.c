@@ -224,7 +224,7 @@ static void average(struct command *c, bool four)
 /* ---- General purpose -------------------------------------------------------------- */
 
 /* -60h, 60h, IR0, RT13 three times, RT22 three times. */
-static struct matrix third_matrix(const struct command *c)
+static struct matrix matrix_3(const struct command *c)
 {
     int64_t rt13 = low_half(c->r[RT + 1]), rt22 = low_half(c->r[RT + 2]);
 
@@ -236,7 +236,7 @@ static void mvmva(struct command *c, uint32_t word)
 {
     static const unsigned matrices[3] = {RT, LLM, LCM}, translations[3] = {TR, BK, FC};
     uint32_t mx = word >> 17 & 3, vertex = word >> 15 & 3, cv = word >> 13 & 3;
-    struct matrix m = mx == 3 ? third_matrix(c) : read_matrix(c, matrices[mx]);
+    struct matrix m = mx == 3 ? matrix_3(c) : read_matrix(c, matrices[mx]);
     struct vector v = vertex == 3 ? read_ir(c) : read_vertex(c, vertex), none = {{0, 0, 0}};
     struct vector t = cv == 3 ? none : read_words(c, translations[cv]);
     unsigned k;
