@@ -23,6 +23,13 @@ uint64_t fliskadee_find_flag(uint8_t *image, size_t image_length, uint8_t *ram, 
     end();
 }
 
+struct fliskadee_answer fliskadee_causes(const uint8_t *image, size_t image_length, uint32_t command, uint32_t *words,
+                                         size_t words_length)
+{
+    (void)image, (void)image_length, (void)command, (void)words, (void)words_length;
+    end();
+}
+
 uint64_t fliskadee_window(const uint8_t *ram, size_t ram_length, uint32_t address, uint64_t length)
 {
     (void)ram, (void)ram_length, (void)address, (void)length;

@@ -11,6 +11,7 @@
 #include "fliskadee.h"
 #include "image.h"
 #include "show.h"
+#include "why.h"
 
 enum { LISTED_WORDS = 32 }; /* differences of RAM that are printed one by one */
 
@@ -25,21 +26,24 @@ static bool words_equal(const uint8_t *first, const uint8_t *second, unsigned wo
     return fliskadee_get_word(first, word) == fliskadee_get_word(second, word);
 }
 
-static bool is_command(uint32_t word)
+bool is_command(uint32_t word)
 {
     return word >> 25 == 0x25;
 }
 
-/* CTC2 to register 63 */
-static bool is_flag_move(uint32_t word)
+bool is_flag_move(uint32_t word)
 {
     return word >> 21 == 0x246 && (word >> 11 & 31) == FLISKADEE_COP2_FLAG - 32;
 }
 
+bool gte_usable(const uint8_t *image)
+{
+    return (fliskadee_get_word(image, FLISKADEE_WORD_SR) >> 30 & 1) != 0;
+}
+
 bool writes_flag(const struct machine *machine, uint32_t *word)
 {
-    bool gte_usable = (fliskadee_get_word(machine->image.data, FLISKADEE_WORD_SR) >> 30 & 1) != 0;
-    if (!gte_usable || !next_instruction(machine, word))
+    if (!gte_usable(machine->image.data) || !next_instruction(machine, word))
         return false;
     return is_flag_move(*word) || (is_command(*word) && gte_command_name(*word) != NULL);
 }
@@ -59,14 +63,22 @@ bool took_exception(const uint8_t *before, const uint8_t *after)
            && (fliskadee_get_word(after, FLISKADEE_WORD_CAUSE) & 0x7C) != 0;
 }
 
+/* The causes of the step that fetches this instruction on the machine of an image: none, unless it carries out a GTE command. */
+static void step_causes(struct causes *causes, const uint8_t *image, uint32_t word)
+{
+    causes->command = 0;
+    causes->count = 0;
+    if (gte_usable(image) && is_command(word))
+        find_causes(causes, image, word);
+}
+
 /* ---- flags ---- */
 
 struct flag_line {
     uint64_t step;
-    uint32_t pc;
     uint32_t word;
-    uint32_t before;
-    uint32_t after;
+    uint32_t after; /* FLAG */
+    uint8_t before[FLISKADEE_IMAGE_BYTES];
 };
 
 static void print_bits(uint32_t bits, char sign)
@@ -79,26 +91,38 @@ static void print_bits(uint32_t bits, char sign)
 static void print_flag_line(const struct flag_line *line)
 {
     char text[128];
-    disassemble(line->word, line->pc, text, sizeof text);
-    printf("%" PRIu64 "  %08X  %08X  %-24s  %08X -> %08X", line->step, (unsigned)line->pc, (unsigned)line->word, text,
-           (unsigned)line->before, (unsigned)line->after);
-    print_bits(line->after & ~line->before, '+');
-    print_bits(line->before & ~line->after, '-');
+    struct causes causes;
+    uint32_t pc = fliskadee_get_word(line->before, FLISKADEE_WORD_PC);
+    uint32_t before = flag_of(line->before);
+    disassemble(line->word, pc, text, sizeof text);
+    printf("%" PRIu64 "  %08X  %08X  %-24s  %08X -> %08X", line->step, (unsigned)pc, (unsigned)line->word, text, (unsigned)before,
+           (unsigned)line->after);
+    print_bits(line->after & ~before, '+');
+    print_bits(before & ~line->after, '-');
     printf("\n");
+    step_causes(&causes, line->before, line->word);
+    for (size_t i = 0; i < causes.count; i++) {
+        printf("    ");
+        show_cause(stdout, &causes, i);
+        printf("\n");
+    }
 }
 
 int follow_flags(struct machine *machine, uint64_t count, int bit, bool last_alone)
 {
-    struct flag_line last = {0, 0, 0, 0, 0};
+    struct flag_line last = {.step = 0};
+    struct flag_line line;
     struct outcome outcome = run_piece(machine, 0);
     for (uint64_t step = 1; was_run(outcome) && outcome.code == FLISKADEE_DONE && step <= count; step++) {
-        struct flag_line line = {step, 0, 0, 0, 0};
         bool writes = writes_flag(machine, &line.word);
-        line.pc = fliskadee_get_word(machine->image.data, FLISKADEE_WORD_PC);
-        line.before = flag_of(machine->image.data);
+        if (writes)
+            memcpy(line.before, machine->image.data, FLISKADEE_IMAGE_BYTES);
         outcome = run_piece(machine, 1);
-        line.after = writes ? flag_of(machine->image.data) : 0;
-        if (outcome.code != FLISKADEE_DONE || !writes || (bit >= 0 && (line.after >> bit & 1) == 0))
+        if (outcome.code != FLISKADEE_DONE || !writes)
+            continue;
+        line.step = step;
+        line.after = flag_of(machine->image.data);
+        if (bit >= 0 && (line.after >> bit & 1) == 0)
             continue;
         last = line;
         if (!last_alone)
@@ -302,53 +326,64 @@ static void print_flag_sides(uint32_t first, uint32_t second)
     printf("\n");
 }
 
-/* The parts of a triple, as the single command that each is. */
-static bool single_command(uint32_t triple, uint32_t *single)
+/* Whether the commands of the two sides leave another FLAG, all in all (part 0) or by a part. */
+static bool flags_differ(const struct causes causes[2], unsigned part)
 {
-    static const uint8_t pairs[][2] = {{0x30, 0x01}, {0x20, 0x1E}, {0x3F, 0x1B}, {0x16, 0x13}, {0x2A, 0x10}};
-    for (size_t i = 0; i < sizeof pairs / sizeof pairs[0]; i++) {
-        if (pairs[i][0] != (triple & 63))
-            continue;
-        *single = (triple & ~UINT32_C(63)) | pairs[i][1];
-        return true;
-    }
-    return false;
+    return causes_flag(&causes[0], part) != causes_flag(&causes[1], part);
 }
 
-/* FLAG of part k of a triple: the single command on a copy that has the part's vertex, or colour, where the single one reads it. */
-static uint32_t part_flag(const uint8_t *image, uint32_t single, unsigned k)
+/* Which of two rows stands first: below 0 the first one, above 0 the second, 0 where bit, part and line are the same. */
+static int compare_places(const uint32_t *first, const uint32_t *second)
 {
-    uint8_t copy[FLISKADEE_IMAGE_BYTES];
-    uint8_t ram[4];
-    memcpy(copy, image, sizeof copy);
-    if ((single & 63) == 0x10) {
-        fliskadee_set_word(copy, FLISKADEE_WORD_COP2 + FLISKADEE_COP2_RGBC, cop2_at(image, FLISKADEE_COP2_RGB0 + k));
-    } else {
-        fliskadee_set_word(copy, FLISKADEE_WORD_COP2 + FLISKADEE_COP2_VXY0, cop2_at(image, FLISKADEE_COP2_VXY0 + 2 * k));
-        fliskadee_set_word(copy, FLISKADEE_WORD_COP2 + FLISKADEE_COP2_VZ0, cop2_at(image, FLISKADEE_COP2_VZ0 + 2 * k));
-    }
-    fliskadee_set_word(copy, FLISKADEE_WORD_PC, 0);
-    fliskadee_set_word(copy, FLISKADEE_WORD_NEXT_PC, 4);
-    fliskadee_set_word(copy, FLISKADEE_WORD_DELAY_SLOT, 0);
-    fliskadee_set_word(copy, FLISKADEE_WORD_SR, UINT32_C(1) << 30);
-    fliskadee_set_word(ram, 0, single);
-    fliskadee_run(copy, sizeof copy, ram, sizeof ram, 1);
-    return flag_of(copy);
+    if (first[0] != second[0])
+        return first[0] > second[0] ? -1 : 1;
+    if (first[1] != second[1])
+        return first[1] < second[1] ? -1 : 1;
+    return (first[2] > second[2]) - (first[2] < second[2]);
 }
 
-static void print_parts(const struct pair *pair, uint32_t word)
+static void print_side_cause(const char *mark, const struct causes *causes, size_t number)
 {
-    uint32_t single;
-    if (!is_command(word) || !single_command(word, &single))
+    printf("%s  ", mark);
+    show_cause(stdout, causes, number);
+    printf("\n");
+}
+
+/* The causes of both sides in one list: those that are equal once, the others marked. */
+static void print_causes(const struct causes causes[2])
+{
+    size_t i = 0;
+    size_t j = 0;
+    if (!flags_differ(causes, 0) && !flags_differ(causes, 1) && !flags_differ(causes, 2) && !flags_differ(causes, 3))
         return;
-    for (unsigned k = 0; k < 3; k++) {
-        uint32_t flags[2];
-        for (unsigned i = 0; i < 2; i++)
-            flags[i] = part_flag(pair->before[i], single, k);
-        if (flags[0] != flags[1])
-            printf("Part %u of the triple (%s%u) leaves FLAG %08X on the first and %08X on the second.\n", k + 1,
-                   (single & 63) == 0x10 ? "RGB" : "V", k, (unsigned)flags[0], (unsigned)flags[1]);
+    printf("  Causes of the bits of FLAG\n");
+    while (i < causes[0].count || j < causes[1].count) {
+        const uint32_t *first = cause_row(&causes[0], i);
+        const uint32_t *second = cause_row(&causes[1], j);
+        int order = i == causes[0].count ? 1 : j == causes[1].count ? -1 : compare_places(first, second);
+        if (order == 0 && causes[0].command == causes[1].command
+            && memcmp(first, second, FLISKADEE_CAUSE_WORDS * sizeof *first) == 0) {
+            print_side_cause("  ", &causes[0], i++);
+            j++;
+            continue;
+        }
+        if (order <= 0)
+            print_side_cause("< ", &causes[0], i++);
+        if (order >= 0)
+            print_side_cause("> ", &causes[1], j++);
     }
+    printf("\n");
+}
+
+static void print_parts(const struct causes causes[2])
+{
+    if (causes[0].command != causes[1].command || part_name(causes[0].command, 1) == NULL)
+        return;
+    for (unsigned part = 1; part <= 3; part++)
+        if (flags_differ(causes, part))
+            printf("Part %u of the triple (%s) leaves FLAG %08X on the first and %08X on the second.\n", part,
+                   part_name(causes[0].command, part), (unsigned)causes_flag(&causes[0], part),
+                   (unsigned)causes_flag(&causes[1], part));
 }
 
 static char *inputs_text(const uint8_t *image, uint32_t word)
@@ -391,12 +426,14 @@ static void print_inputs(const struct pair *pair)
         print_marked(first, second);
     free(first);
     free(second);
-    print_parts(pair, word);
 }
 
 static void print_parting(const struct pair *pair, const struct stored *stored, uint64_t step)
 {
     uint32_t flags[2] = {flag_of(pair->now[0].image.data), flag_of(pair->now[1].image.data)};
+    struct causes causes[2];
+    for (unsigned i = 0; i < 2; i++)
+        step_causes(&causes[i], pair->before[i], pair->fetched[i] ? pair->words[i] : 0);
     printf("They part at step %" PRIu64 ".\n", step);
     print_sides(pair);
     for (unsigned word = 0; word < FLISKADEE_IMAGE_WORDS; word++)
@@ -408,7 +445,9 @@ static void print_parting(const struct pair *pair, const struct stored *stored, 
             print_ram_word(&pair->now[0].ram, &pair->now[1].ram, stored->word[i]);
     if (newly_apart(pair, FLISKADEE_WORD_COP2 + FLISKADEE_COP2_FLAG))
         print_flag_sides(flags[0], flags[1]);
+    print_causes(causes);
     print_inputs(pair);
+    print_parts(causes);
 }
 
 static void list_start(struct pair *pair)

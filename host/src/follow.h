@@ -7,13 +7,20 @@
 
 #include "machine.h"
 
+/* A GTE command, listed or not; CTC2 to register 63, which is FLAG. */
+bool is_command(uint32_t word);
+bool is_flag_move(uint32_t word);
+
+/* Whether the GTE is usable by SR; else each of its instructions takes CpU. */
+bool gte_usable(const uint8_t *image);
+
 /* Whether the next step writes FLAG: it carries out a listed GTE command, or CTC2 to register 63. */
 bool writes_flag(const struct machine *machine, uint32_t *word);
 
 /* The step from `before` to `after` was an exception. */
 bool took_exception(const uint8_t *before, const uint8_t *after);
 
-/* A line for each step that writes FLAG, of at most count steps. bit: those alone that leave this bit set, or -1 for all. */
+/* A line for each step that writes FLAG, of at most count steps, and under it the causes of a GTE command. bit: those alone that leave this bit set, or -1 for all. */
 int follow_flags(struct machine *machine, uint64_t count, int bit, bool last_alone);
 
 /* How two machines differ: the registers, and RAM. Answers how many words do. */

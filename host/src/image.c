@@ -101,7 +101,7 @@ static uint32_t packed_colour(const uint8_t *image)
     return packed;
 }
 
-static uint32_t flag_read(uint32_t word)
+uint32_t flag_read(uint32_t word)
 {
     return (word & FLAG_BITS) | ((word & FLAG_ERROR_BITS) != 0 ? UINT32_C(1) << 31 : 0);
 }

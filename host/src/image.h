@@ -45,6 +45,9 @@ static inline int32_t high_half(uint32_t word)
     return low_half(word >> 16);
 }
 
+/* FLAG as it reads after these bits were set: bits 30..12 of them, and bit 31 by its rule. */
+uint32_t flag_read(uint32_t word);
+
 /* The name by which a word of the image is printed. */
 const char *word_name(unsigned word);
 

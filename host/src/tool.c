@@ -1,4 +1,4 @@
-/* The command-line tool: run machines, look at them, compare them, and find the step that set a flag. */
+/* The command-line tool: run machines, look at them, compare them, find the step that set a flag, and say why it did. */
 #define _POSIX_C_SOURCE 200809L
 
 #include <inttypes.h>
@@ -16,6 +16,7 @@
 #include "image.h"
 #include "machine.h"
 #include "show.h"
+#include "why.h"
 
 static bool read_image(const char *path, struct bytes *image)
 {
@@ -392,6 +393,8 @@ static void print_found(unsigned bit, uint64_t step, const struct machine *befor
 {
     uint32_t pc = fliskadee_get_word(before->image.data, FLISKADEE_WORD_PC);
     uint32_t word = 0;
+    struct causes causes;
+    bool fetched = fetch_word(&before->ram, pc, &word);
     printf("FLAG bit %u came up at step %" PRIu64 ".\n", bit, step);
     printf("  bit %u: %s\n\n", bit, flag_meaning(bit));
     print_instruction(before, "instruction ");
@@ -400,9 +403,12 @@ static void print_found(unsigned bit, uint64_t step, const struct machine *befor
     printf("\nFLAG before %08X\n", (unsigned)cop2_at(before->image.data, FLISKADEE_COP2_FLAG));
     show_flag(stdout, cop2_at(before->image.data, FLISKADEE_COP2_FLAG), "  ");
     printf("FLAG after  %08X\n", (unsigned)cop2_at(after->image.data, FLISKADEE_COP2_FLAG));
-    show_flag(stdout, cop2_at(after->image.data, FLISKADEE_COP2_FLAG), "  ");
+    if (is_command(word) && find_causes(&causes, before->image.data, word) == FLISKADEE_DONE)
+        show_causes(stdout, &causes, "  ");
+    else
+        show_flag(stdout, cop2_at(after->image.data, FLISKADEE_COP2_FLAG), "  ");
     printf("\n");
-    if (fetch_word(&before->ram, pc, &word))
+    if (fetched)
         show_inputs(stdout, before->image.data, word);
 }
 
@@ -500,6 +506,110 @@ static int command_find_flag(int count, char **arguments)
     struct outcome outcome = search_flag(&machine, &before, steps, UINT32_C(1) << bit);
     int status = report_search((unsigned)bit, outcome, &before, &machine, steps);
     free_machine(&before);
+    free_machine(&machine);
+    return status;
+}
+
+/* ---- why ---- */
+
+/* After the line of the instruction: the causes, or why there are none. */
+static int print_causes(const uint8_t *image, uint32_t command)
+{
+    struct causes causes;
+    unsigned code = find_causes(&causes, image, command);
+    switch (code) {
+    case FLISKADEE_DONE: break;
+    case FLISKADEE_REFUSED_IMAGE_FORM:
+        printf("Code 2: refused, the image is not well formed (the command check says why).\n");
+        return STATUS_FINDING;
+    case FLISKADEE_UNLISTED: printf("Code 5: refused, it is not one of the 22 GTE commands.\n"); return STATUS_FINDING;
+    default: complain("code %u: the library's answer is not one that this tool knows.", code); return STATUS_TROUBLE;
+    }
+    if (causes.count == 0) {
+        printf("It sets no bit of FLAG.\n");
+        return STATUS_FINE;
+    }
+    printf("It leaves FLAG %08X:\n", (unsigned)causes_flag(&causes, 0));
+    show_causes(stdout, &causes, "  ");
+    return STATUS_FINE;
+}
+
+static int why_word(const char *path, const char *text)
+{
+    struct bytes image;
+    uint64_t word;
+    char line[128];
+    if (!parse_number(text, &word) || word > UINT32_MAX) {
+        complain("WORD must be a 32-bit number (decimal, or hex after 0x), not \"%s\"; a RAM file is given as --ram RAM.", text);
+        return STATUS_TROUBLE;
+    }
+    if (!read_image(path, &image))
+        return STATUS_TROUBLE;
+    uint32_t instruction = 0x4A000000 | ((uint32_t)word & 0x01FFFFFF);
+    disassemble(instruction, 0, line, sizeof line);
+    printf("%08X  %s\n", (unsigned)instruction, line);
+    /* Without any of the seven bits is how 001 prints commands. */
+    if (word >> 25 != 0 && !is_command((uint32_t)word))
+        printf("The top seven bits of %08X, which are not those of a GTE command, are ignored.\n", (unsigned)word);
+    int status = print_causes(image.data, (uint32_t)word);
+    free(image.data);
+    return status;
+}
+
+static int print_no_fetch(const uint8_t *image)
+{
+    uint32_t pc = fliskadee_get_word(image, FLISKADEE_WORD_PC);
+    bool user = (fliskadee_get_word(image, FLISKADEE_WORD_SR) >> 1 & 1) != 0;
+    const char *reason = "it is not in RAM, and the step takes IBE";
+    if (pc % 4 != 0)
+        reason = "it is no multiple of 4, and the step takes AdEL";
+    else if (user && pc >> 31 != 0)
+        reason = "user mode does not reach it, and the step takes AdEL";
+    printf("Nothing is fetched at PC %08X: %s.\n", (unsigned)pc, reason);
+    return STATUS_FINDING;
+}
+
+static int why_next(struct machine *machine)
+{
+    uint32_t word;
+    struct outcome outcome = run_piece(machine, 0);
+    if (!was_run(outcome))
+        return print_answer(outcome, machine);
+    if (!next_instruction(machine, &word))
+        return print_no_fetch(machine->image.data);
+    print_instruction(machine, "");
+    if (!is_command(word)) {
+        printf("The instruction at PC is no GTE command. To ask about a later one, run to just before it, or give its word.\n");
+        if (is_flag_move(word))
+            show_inputs(stdout, machine->image.data, word);
+        return STATUS_FINDING;
+    }
+    if (!gte_usable(machine->image.data))
+        printf("CU2 of SR is clear: the step itself takes CpU and carries out no command. With CU2 set:\n");
+    return print_causes(machine->image.data, word);
+}
+
+static int command_why(int count, char **arguments)
+{
+    const char *positional[2];
+    const char *ram = NULL;
+    int positionals = 0;
+    struct machine machine;
+    for (int i = 0; i < count; i++) {
+        bool good = is_option(arguments[i], "--ram") ? take_option("--ram", "a file name", &ram, count, arguments, &i)
+                                                     : take_positional("why", positional, 2, &positionals, arguments[i]);
+        if (!good)
+            return STATUS_TROUBLE;
+    }
+    if (positionals == 2 && ram == NULL)
+        return why_word(positional[0], positional[1]);
+    if (positionals != 1 || ram == NULL) {
+        complain("why takes IMAGE WORD, or IMAGE --ram RAM for the command at PC; see fliskadee why --help.");
+        return STATUS_TROUBLE;
+    }
+    if (!read_machine(&machine, positional[0], ram))
+        return STATUS_TROUBLE;
+    int status = why_next(&machine);
     free_machine(&machine);
     return status;
 }
@@ -753,10 +863,11 @@ static const struct command commands[] = {
      "With two images alone it says that RAM was not looked at.\n"
      "\n"
      "Status: 0 equal; 1 different; 2 bad usage or file trouble.\n"},
-    {"flags", command_flags, -1, "IMAGE RAM N [--bit B] [--last]", "list the steps that wrote FLAG",
+    {"flags", command_flags, -1, "IMAGE RAM N [--bit B] [--last]", "list the steps that wrote FLAG, and why",
      "Runs at most N steps and prints a line for each completed step that wrote FLAG (a GTE command, or CTC2 to\n"
      "register 63): the step, its PC, word and instruction, FLAG before and after, and the bits that came (+) and\n"
-     "went (-) by name. With --bit B only the steps that left bit B (12..31) set, also where it was set before.\n"
+     "went (-) by name. Under a GTE command stands a line for each cause of a bit that it set, as why tells them but\n"
+     "without the text of 001. With --bit B only the steps that left bit B (12..31) set, also where it was set before.\n"
      "With --last only the last of them: without --bit that is the step that left the FLAG that stands.\n"
      "The lists of two machines can be compared with diff(1).\n"
      "\n"
@@ -766,9 +877,9 @@ static const struct command commands[] = {
      "Runs two machines in lockstep, at most N steps, and finds the first step at which something that was equal\n"
      "differs: a register, or the word of RAM that a store addressed; with --flag, FLAG alone. What differs at the\n"
      "start is listed first and does not count. Prints the step; PC, word and instruction on both sides; the\n"
-     "registers that part, and each bit of FLAG that one side has and the other has not; for a GTE command its inputs\n"
-     "on both sides, with < and > where they differ, and for a triple which vertex (or colour) it is; and whether\n"
-     "and when the two are equal again.\n"
+     "registers that part, and each bit of FLAG that one side has and the other has not; for a GTE command the causes\n"
+     "of those bits (see why) and its inputs on both sides, with < and > where they differ, and for a triple which\n"
+     "vertex (or colour) it is; and whether and when the two are equal again.\n"
      "With --coarse pieces of 1,000,000 steps are compared at their ends first: quicker, but a parting that heals\n"
      "inside a piece is missed.\n"
      "\n"
@@ -777,8 +888,8 @@ static const struct command commands[] = {
     {"find-flag", command_find_flag, 4, "BIT IMAGE RAM N", "find the first step at which a bit of FLAG comes up",
      "Runs at most N steps and finds the first one at which bit BIT (12..31) of FLAG comes up: it is clear before\n"
      "the step and set after it. Prints the step's number (the first step is 1), its PC and instruction, FLAG before\n"
-     "and after bit by bit, and the registers that the instruction took its result from; for RTPS and RTPT\n"
-     "also each vertex after rotation and translation, which shows the one that is too near or too far.\n"
+     "and after bit by bit, for a GTE command with the causes of each bit (see why), and the registers that the\n"
+     "instruction took its result from; for RTPS and RTPT also each vertex after rotation and translation.\n"
      "If the bit is set at the start already, that is said, and the next time it comes up is looked for. A command\n"
      "that finds the bit set and sets it again is not such a time; those steps are named after the others. Which step\n"
      "left the FLAG that stands is what flags --last says. No file changes.\n"
@@ -788,6 +899,17 @@ static const struct command commands[] = {
      "  27 MAC1 negative   28 MAC3 positive   29 MAC2 positive   30 MAC1 positive   31 error (30..23, 18..13)\n"
      "\n"
      "Status: 0 found; 1 not found, or the image is not well formed; 2 bad usage or file trouble.\n"},
+    {"why", command_why, -1, "IMAGE WORD | IMAGE --ram RAM", "say why a GTE command sets bits of FLAG",
+     "Prints FLAG as a GTE command leaves it on the machine of IMAGE, bit by bit, and under each bit from 30 to 12 every\n"
+     "cause: for a triple the part and its vertex (or colour); the line of the command's formula in 001, by its text and\n"
+     "its number (counted from 1: the lines of the block that write a register, those marked for other commands too);\n"
+     "and the exact value that left its range, or H and SZ3 for bit 17.\n"
+     "WORD is the command: decimal, or hex after 0x; its top seven bits are ignored. With --ram in place of WORD it is\n"
+     "the instruction at PC, as the next step fetches it. Where CU2 of SR is clear, the causes are told all the same,\n"
+     "and that the step itself takes CpU. No file changes.\n"
+     "\n"
+     "Status: 0 printed, also where no bit is set; 1 the image is not well formed, the command is not one of the 22, or\n"
+     "there is none at PC; 2 bad usage or file trouble.\n"},
     {"disassemble", command_disassemble, 3, "RAM ADDRESS COUNT", "print instructions from a RAM file",
      "Prints COUNT instructions from the virtual address ADDRESS on: address, word and text. ADDRESS is decimal, or\n"
      "hex after 0x, and a multiple of 4; addresses beginning with bits 000, 100 and 101 name the same RAM.\n"
@@ -828,7 +950,7 @@ static void print_help(void)
            "Where a file is read or written, - is standard input or output. After -- nothing is an option.\n"
            "No file changes unless a command is asked to write it; a file is replaced whole or not at all.\n"
            "Status: 0 fine; 1 a negative finding (images differ, not well formed, flag not found, run stopped before\n"
-           "an unknown GTE command); 2 bad usage or file trouble.\n");
+           "an unknown GTE command, no GTE command to explain); 2 bad usage or file trouble.\n");
 }
 
 static void print_command_help(const struct command *command)
