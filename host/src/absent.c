@@ -36,13 +36,6 @@ uint64_t fliskadee_window(const uint8_t *ram, size_t ram_length, uint32_t addres
     end();
 }
 
-struct fliskadee_answer fliskadee_causes(const uint8_t *image, size_t image_length, uint32_t command, uint32_t *words,
-                                         size_t words_length)
-{
-    (void)image, (void)image_length, (void)command, (void)words, (void)words_length;
-    end();
-}
-
 uint32_t fliskadee_interface(void)
 {
     end();

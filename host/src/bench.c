@@ -6,6 +6,7 @@
  */
 #define _DEFAULT_SOURCE
 
+#include "causes.h"
 #include "encode.h"
 #include "fliskadee.h"
 #include "model.h"
@@ -238,9 +239,72 @@ static bool measure(const struct workload *w, unsigned rounds)
     return true;
 }
 
+/* ---- Causes -------------------------------------------------------------------- */
+
+#define QUESTIONS 2000 /* of a round */
+
+/* An image whose COP2 registers are as different as can be, so that commands set many bits. */
+static void strained(uint8_t image[MODEL_IMAGE_BYTES])
+{
+    static struct workload w;
+    struct model m;
+    unsigned n;
+
+    fresh(&w);
+    model_load(&m, w.image);
+    for (n = 0; n < 64; n++)
+        model_cop2_write(&m, n, 0x9E3779B9u * (n + 1));
+    model_store(&m, image);
+}
+
+typedef uint64_t causes_function(const uint8_t *, uint32_t, uint32_t *);
+
+static uint64_t library_causes(const uint8_t *image, uint32_t command, uint32_t *words)
+{
+    return fliskadee_causes(image, MODEL_IMAGE_BYTES, command, words, FLISKADEE_MOST_CAUSE_WORDS).number;
+}
+
+static uint64_t model_words(const uint8_t *image, uint32_t command, uint32_t *words)
+{
+    return model_causes(image, MODEL_IMAGE_BYTES, command, words, FLISKADEE_MOST_CAUSE_WORDS).number;
+}
+
+static double time_causes(causes_function *causes, const uint8_t *image, uint32_t command, uint32_t *words)
+{
+    double start = now();
+    unsigned i;
+
+    for (i = 0; i < QUESTIONS; i++)
+        causes(image, command, words);
+    return now() - start;
+}
+
+/* The same for questions after a command's causes. */
+static bool measure_causes(const char *name, const uint8_t *image, uint32_t command, unsigned rounds)
+{
+    static uint32_t library[FLISKADEE_MOST_CAUSE_WORDS], model[FLISKADEE_MOST_CAUSE_WORDS];
+    double library_times[MAXIMUM_ROUNDS], model_times[MAXIMUM_ROUNDS], library_median, model_median;
+    unsigned i;
+
+    for (i = 0; i < rounds; i++) {
+        library_times[i] = time_causes(library_causes, image, command, library);
+        model_times[i] = time_causes(model_words, image, command, model);
+        if (memcmp(library, model, sizeof library) != 0) {
+            printf("%s: library and model list different rows\n", name);
+            return false;
+        }
+    }
+    library_median = median(library_times, rounds) / QUESTIONS;
+    model_median = median(model_times, rounds) / QUESTIONS;
+    printf("%-34s %10.2f %10.2f M calls/s %8.2f %9.2f ns %8.2f\n", name, 1e-6 / library_median, 1e-6 / model_median,
+           library_median * 1e9, model_median * 1e9, model_median / library_median);
+    return true;
+}
+
 int main(int argc, char **argv)
 {
     static struct workload w;
+    uint8_t image[MODEL_IMAGE_BYTES];
     static const struct {
         const char *name;
         void (*prepare)(struct workload *);
@@ -278,6 +342,11 @@ int main(int argc, char **argv)
         w.unit = workloads[i].unit;
         same &= measure(&w, rounds);
     }
+    rtpt_near_loop(&w);
+    same &= measure_causes("causes of RTPT, a vertex too near", w.image, encode_command(0x30, 1, 0), rounds);
+    strained(image);
+    same &= measure_causes("causes of RTPS, many bits", image, encode_command(0x01, 1, 0), rounds);
+    same &= measure_causes("causes of NCDT, many bits", image, encode_command(0x16, 1, 0), rounds);
     printf("ratio: the library's speed over the model's\n");
     return same ? 0 : 1;
 }

@@ -20,7 +20,8 @@ bool writes_flag(const struct machine *machine, uint32_t *word);
 /* The step from `before` to `after` was an exception. */
 bool took_exception(const uint8_t *before, const uint8_t *after);
 
-/* A line for each step that writes FLAG, of at most count steps, and under it the causes of a GTE command. bit: those alone that leave this bit set, or -1 for all. */
+/* A line for each step that writes FLAG, of at most count steps, and under it the causes of a GTE command. bit: those alone that
+   leave this bit set, or -1 for all. */
 int follow_flags(struct machine *machine, uint64_t count, int bit, bool last_alone);
 
 /* How two machines differ: the registers, and RAM. Answers how many words do. */

@@ -1,4 +1,4 @@
-// Runs worked examples of the GTE, of steps, of runs and of windows through the code, and compares. Carries the rows of 01 "Figures
+// Runs worked examples of the GTE, of steps, of runs, of windows and of causes through the code, and compares. Carries the rows of 01 "Figures
 // from the bench" that are not starred.
 // Standard input has lines of 20 bytes: a letter, and two numbers of 8 hexadecimal digits (or, after `n`, a name).
 //   n  a case begins: registers of zeros; an image that is fresh (zeros, but next PC 4 and COP2 register 31, which is 32), of 432
@@ -11,6 +11,8 @@
 //   r  a word of the image, and what it is to be    q  an address in RAM, and what its word is to be
 //   k  the last run or search has changed no byte of image and RAM
 //   p  a window as bytes: the address, the length; it answers the length, and the last byte by 256 plus the first
+//   e  the causes of a command word on the image, and how many words are lent, at most 600: it answers code and number, and RAM then
+//      begins with 600 words, the lent ones and others behind, each EEEEEEEEh where nothing was written
 ghost use Prim.Native.Nat.{_<_};
 use gte::Outcome;
 
@@ -246,6 +248,29 @@ fn part(ram: &[u8], ram_length: usize, address: u32, n: u32) -> u64 {
     ))
 }
 
+// The 600 words go to the beginning of RAM.
+fn put_words(ram: &mut [u8], words: &[u32; 600]) {
+    let mut i: usize = 0;
+    while i < 600 {
+        put(ram, i * 4, words[i]);
+        i += 1;
+    }
+}
+
+// The causes of a command with so many words lent: the code, and the number.
+fn causes(image: &[u8], ram: &mut [u8], image_length: usize, word: u32, space: usize) -> u64 {
+    if image.len() < image_length {
+        return 0xffff_ffff_ffff_ffff;
+    }
+    if 600 < space {
+        return 0xffff_ffff_ffff_ffff;
+    }
+    let mut words = [0xeeee_eeeeu32; 600];
+    let a = fliskadee::fliskadee_causes(&image[0..image_length], word, &mut words[0..space]);
+    put_words(ram, &words);
+    a.code % 0x100 * 0x1_0000_0000 + a.number % 0x1_0000_0000
+}
+
 // A command is carried out: 0, or 1 where it is not listed.
 fn outcome(g: &mut [u32; 64], word: u32) -> u64 {
     match gte::command(g, word) {
@@ -348,6 +373,7 @@ fn follow(
             find(image, ram, x.image_length, x.ram_length, join(x.high, a), b),
         ),
         b'v' => with_answer(x, window(ram, x.ram_length, a, b)),
+        b'e' => with_answer(x, causes(image, ram, x.image_length, a, b as usize)),
         b'p' => with_answer(x, part(ram, x.ram_length, a, b)),
         b'c' => {
             let t = x.tally;

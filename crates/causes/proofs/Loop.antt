@@ -9,9 +9,9 @@ use lib.ListN.{length, drop}
 use lib.Seq.{sets, sets-eq, length-sets}
 use Rattle.gte_arithmetic.specs.Checks.{Check}
 use Rattle.gte_rows.specs.Rows.{PartsWhole, Row, rowWords, partRows, rowsDown, rowsOf, wordsOf}
-use Rattle.gte_rows.specs.Listing.{Listing, listing, addRow}
-use Rattle.gte_causes.specs.Causes.{addRows, Adds, ListsBit}
-use Rattle.gte_causes.proofs.Parts.{add-++}
+use Rattle.gte_rows.specs.Listing.{Listing, listing, addRow, addRows, Adds}
+use Rattle.gte_rows.proofs.Listings.{rows-++}
+use Rattle.gte_causes.specs.Causes.{ListsBit}
 use Rattle.image.specs.Refusals.{firstOf}
 use Rattle.causes.specs.Causes.{answered, numberOf, wordsAfter, fitting}
 
@@ -43,7 +43,7 @@ going-next parts out₀ out out′ (suc k) n n′ h g w l e =
       small = omega arith;
       long = e ∙ g .long;
       whole = λ i. w .whole;
-      left = ap (addRows (rowsDown k parts)) (rw (back k) at (w .rows .is)) ∙ sym (add-++ (partRows (12 + k) 1 parts) (rowsDown k parts) (listing n out)) ∙ g .left;
+      left = ap (addRows (rowsDown k parts)) (rw (back k) at (w .rows .is)) ∙ sym (rows-++ (partRows (12 + k) 1 parts) (rowsDown k parts) (listing n out)) ∙ g .left;
     })
   where
     back : (k : ℕ) → suc k - 1 ≡ k

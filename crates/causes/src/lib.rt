@@ -3,13 +3,13 @@ ghost use mathlib.Core.Path.{_≡_};
 ghost use Prim.Native.Nat.{_≤_};
 ghost use lib.ListN.{length};
 ghost use Rattle.gte_rows.specs.Rows.{wordsOf, PartsWhole};
-ghost use Rattle.gte_rows.specs.Listing.{listing};
-ghost use Rattle.gte_causes.specs.Causes.{partsAt, rowsAt, Adds};
+ghost use Rattle.gte_rows.specs.Listing.{listing, Adds};
+ghost use Rattle.gte_causes.specs.Causes.{partsAt, rowsAt};
 ghost use Rattle.causes.specs.Causes.{answered, fitting, Causes};
 use answer::Answer;
 use gte::is_listed;
 use gte_causes::commands::list_bit;
-use image::admission::read_image;
+use image::admission::read_geometry;
 
 // The rows of bits 30 down to 12. The words needed are answered, whether they are there or not.
 fn list_rows(out: &mut [u32], c: &[u32; 64], word: u32) -> usize
@@ -66,12 +66,12 @@ fn refused(code: u64) -> Answer
 pub fn list_causes(image: &[u8], word: u32, words: &mut [u32]) -> Answer
     ensures { λ r. ⌜ Causes (now (image .entry)) word (now (words .entry)) r (now (words .exit)) ⌝ }
 {
-    let a = read_image(image);
-    if a.code != 0 {
-        return refused(a.code);
+    let mut g = [0u32; 64];
+    let code = read_geometry(image, &mut g);
+    if code != 0 {
+        return refused(code);
     }
     if is_listed(word) {
-        let g = a.geometry;
         list_fitting(words, &g, word)
     } else {
         refused(5)

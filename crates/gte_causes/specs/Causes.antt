@@ -1,10 +1,9 @@
 -- The rows of a command word over the 64 words, and what listing them does.
-use mathlib.Core.List.{List, [], _∷_}
-use mathlib.Core.Path.{_≡_}
+use mathlib.Core.List.{List}
 use Prim.Native.Nat.{ℕ}
 use Rattle.gte_arithmetic.specs.Checks.{Check}
 use Rattle.gte_rows.specs.Rows.{Row, partRows, rowsOf, PartsWhole}
-use Rattle.gte_rows.specs.Listing.{Listing, addRow}
+use Rattle.gte_rows.specs.Listing.{Listing, Adds}
 use Rattle.gte_inputs.specs.Inputs.{inputsOf}
 use Rattle.gte.specs.Commands.{commandIn, sfOf, lmOf, partsOf}
 
@@ -15,15 +14,6 @@ partsAt word w = partsOf (commandIn word) (sfOf word) (lmOf word) word (inputsOf
 -- the rows of those that fail
 abbrev pub rowsAt : ℕ → List ℕ → List Row
 rowsAt word w = rowsOf (partsAt word w)
-
--- rows one after another
-unfoldable pub addRows : List Row → Listing → Listing
-addRows [] s = s
-addRows (r ∷ rs) s = addRows rs (addRow r s)
-
--- t is what these rows leave of s
-pub record Adds (rows : List Row) (s t : Listing) : Type 0 where
-  pub is : t ≡ addRows rows s
 
 -- t is what the rows of bit b leave of s; and no value is longer than two words
 pub record ListsBit (b : ℕ) (parts : List (List Check)) (s t : Listing) : Type 0 where

@@ -1,5 +1,4 @@
 // The causes of every command.
-ghost use mathlib.Core.Path.{_≡_};
 ghost use Prim.Native.Nat.{_+_, _≤_};
 ghost use Rattle.gte_rows.specs.Listing.{listing};
 ghost use Rattle.gte_causes.specs.Causes.{partsAt, ListsBit};

@@ -1,5 +1,4 @@
 // The causes of NCLIP, AVSZ3 and AVSZ4.
-ghost use mathlib.Core.Path.{_≡_};
 ghost use mathlib.Core.List.{[]};
 ghost use Prim.Native.Nat.{_+_, _≤_};
 ghost use lib.IntN.{pos, _*ℤ_};

@@ -1,5 +1,4 @@
 // The causes of NCS, NCCS and NCDS, and of their triples.
-ghost use mathlib.Core.Path.{_≡_};
 ghost use mathlib.Core.List.{[], _∷_};
 ghost use Prim.Native.Nat.{_+_, _*_, _^_, _≤_, _<_};
 ghost use Rattle.gte_sums.specs.Sums.{Bounded};

@@ -1,9 +1,8 @@
 // The causes of MVMVA, SQR and OP.
-ghost use mathlib.Core.Path.{_≡_};
 ghost use Prim.Native.Nat.{_+_, _*_, _^_, _≤_};
-ghost use Rattle.gte_sums.specs.Sums.{Bounded, productOf};
+ghost use Rattle.gte_sums.specs.Sums.{Bounded};
 ghost use Rattle.gte_inputs.specs.Inputs.{inputsOf};
-ghost use Rattle.gte_matrix.specs.Multiply.{thirdsOf, farChecks, multipliedChecks, mvmvaChecks};
+ghost use Rattle.gte_matrix.specs.Multiply.{farChecks, multipliedChecks, mvmvaChecks};
 ghost use Rattle.gte_matrix.specs.SqrOp.{squareChecks, outerChecks};
 ghost use Rattle.gte_rows.specs.Listing.{listing, Lists};
 use crate::lines::list_line_at;

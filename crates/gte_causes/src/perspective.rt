@@ -5,7 +5,7 @@ ghost use mathlib.Core.List.{[], _∷_};
 ghost use Prim.Native.Nat.{_+_, _*_, _^_, _≤_, _<_};
 ghost use lib.Signed.{shrZ};
 ghost use Rattle.integers.specs.Parts.{Mag};
-ghost use Rattle.gte_arithmetic.specs.Values.{sumChecks, mac0Checks, irCheck, depthCheck, screenCheck, factorCheck};
+ghost use Rattle.gte_arithmetic.specs.Values.{macOf, irOf, depthOf, sumChecks, mac0Checks, irCheck, depthCheck, screenCheck, factorCheck};
 ghost use Rattle.gte_division.specs.Division.{ratioOf};
 ghost use Rattle.gte_sums.specs.Sums.{Bounded};
 ghost use Rattle.gte_inputs.specs.Inputs.{inputsOf};
@@ -14,6 +14,7 @@ ghost use Rattle.gte_perspective.specs.Projection.{farOf, vertexChecks};
 ghost use Rattle.gte_perspective.specs.Vertices.{vertexChecksAt};
 ghost use Rattle.gte_rows.specs.Listing.{listing, Lists};
 ghost use Rattle.gte_causes.specs.Causes.{ListsBit};
+use gte_arithmetic::limits::limit_depth;
 use gte_arithmetic::mac::wrap_44;
 use gte_arithmetic::values::Camera;
 use gte_arithmetic::values::Wide;
@@ -22,7 +23,7 @@ use gte_inputs::matrices::rotation;
 use gte_inputs::screen::camera;
 use gte_inputs::vectors::translation;
 use gte_inputs::vectors::vector;
-use gte_perspective::projection::project;
+use gte_line::finish_one;
 use gte_perspective::screen::exact;
 use gte_rows::checks::list_cell;
 use gte_rows::checks::list_depth;
@@ -91,31 +92,62 @@ fn list_to_screen(
     list_cue_factor(out, y, a, e.z)
 }
 
-// Lines 3 and 4: bits 22 and 18 test the 44-bit sum shifted by 12.
+// Z: the 44-bit sum shifted by 12.
+fn far(x: i64) -> i64
+    requires { ⌜ Mag x (3 * 2 ^ 43) ⌝ }
+    ensures { λ r. ⌜ r ≡ farOf x ⌝ }
+{
+    let w = wrap_44(x, 0, 0);
+    shift_12(w.v)
+}
+
+// Lines 3 and 4: bits 22 and 18 test Z.
 fn list_third(out: &mut [u32], n: usize, a: Wanted, x: i64) -> usize
     requires { ⌜ (n + 20 ≤ 65536) × Mag x (3 * 2 ^ 43) ⌝ }
     ensures is { λ r. ⌜ Lists (a .bit) (a .part) (sumChecks 3 3 x (irCheck 3 3 false (farOf x) ∷ depthCheck 4 (farOf x) ∷ [])) (listing n (now (out .entry))) (listing r (now (out .exit))) ⌝ }
     ensures small { λ r. ⌜ r ≤ n + 20 ⌝ }
 {
-    let w = wrap_44(x, 0, 0);
-    let z = shift_12(w.v);
+    let z = far(x);
     let p = list_sum(out, n, a, 3, 3, x);
     let q = list_ir(out, p, a, 3, 3, z, false);
     list_depth(out, q, a, 4, z)
 }
 
-// All seven lines, from the three exact sums; what later lines read of earlier ones is the command's own.
+// What lines 5 to 7 read of the lines before them.
+struct Earlier {
+    pub sz: u32,
+    pub ir1: i16,
+    pub ir2: i16,
+}
+
+// They are worked out here by the command's own functions, and not by `project`, which becomes part of the command only as long as nothing
+// else calls it.
+fn first_lines(s: Wide, sf: bool) -> Earlier
+    requires { ⌜ Bounded (3 * 2 ^ 43) s ⌝ }
+    ensures is { λ r. ⌜ r ≡ record { sz = depthOf (farOf (s .z)); ir1 = irOf false (macOf sf (s .x)); ir2 = irOf false (macOf sf (s .y)) } ⌝ }
+    ensures small { λ r. ⌜ r .sz < 65536 ⌝ }
+{
+    let x = finish_one(s.x, sf, false, 0, 0, 0);
+    let y = finish_one(s.y, sf, false, 0, 0, 0);
+    let d = limit_depth(far(s.z));
+    Earlier {
+        sz: d.v,
+        ir1: x.ir,
+        ir2: y.ir,
+    }
+}
+
+// All seven lines, from the three exact sums.
 fn list_projection(out: &mut [u32], n: usize, a: Wanted, s: Wide, k: Camera, sf: bool) -> usize
     requires { ⌜ (n + 100 ≤ 65536) × Bounded (3 * 2 ^ 43) s ⌝ }
     ensures is { λ r. ⌜ Lists (a .bit) (a .part) (vertexChecks sf s k) (listing n (now (out .entry))) (listing r (now (out .exit))) ⌝ }
     ensures small { λ r. ⌜ r ≤ n + 100 ⌝ }
 {
-    let v = project(s, k, sf);
-    let i = v.ir;
-    let x = list_cell(out, n, a, 1, 1, 1, s.x, s.x, sf, false);
-    let y = list_cell(out, x, a, 2, 2, 2, s.y, s.y, sf, false);
-    let z = list_third(out, y, a, s.z);
-    list_to_screen(out, z, a, k, v.sz, i.x, i.y)
+    let e = first_lines(s, sf);
+    let p = list_cell(out, n, a, 1, 1, 1, s.x, s.x, sf, false);
+    let q = list_cell(out, p, a, 2, 2, 2, s.y, s.y, sf, false);
+    let r = list_third(out, q, a, s.z);
+    list_to_screen(out, r, a, k, e.sz, e.ir1, e.ir2)
 }
 
 // RTPS, and a part of RTPT.

@@ -1,5 +1,4 @@
 // The causes of CC, CDP, DCPL, INTPL, DPCS, DPCT, GPF and GPL.
-ghost use mathlib.Core.Path.{_≡_};
 ghost use mathlib.Core.List.{[], _∷_};
 ghost use Prim.Native.Nat.{_+_, _≤_, _<_};
 ghost use Rattle.gte_inputs.specs.Inputs.{inputsOf};

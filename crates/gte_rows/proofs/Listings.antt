@@ -1,16 +1,15 @@
 -- Listings: the five stores of a row, and what a list of checks leaves of one.
 use mathlib.Core.Bool.{Bool, true, false, cond, _&&_}
 use mathlib.Core.List.{List, [], _∷_, _++_}
-use mathlib.Core.Path.{_≡_, refl, sym, ap, _∙_}
+use mathlib.Core.Path.{_≡_, refl, sym, ap, _∙_, subst}
 use Prim.Native.Nat.{ℕ, suc, _+_, _<_, _≤_}
 use native.Mathlib.Omega.{arith}
 use borrow.Author.Tests.{le-leb, lt-leb, ne-eqb, eq-eqb}
 use lib.Dec.{eqb}
-use lib.ListN.{length, set, drop}
-use lib.Seq.{sets, sets-eq, length-sets}
+use lib.ListN.{length, set}
 use Rattle.gte_arithmetic.specs.Checks.{Check}
-use Rattle.gte_rows.specs.Rows.{Whole, AllWhole, none, more, Row, rowOf, rowWords, caused, causes, wordsOf}
-use Rattle.gte_rows.specs.Listing.{Listing, listing, addRow, addCauses, Lists}
+use Rattle.gte_rows.specs.Rows.{Row, rowOf, caused, causes, Whole, AllWhole, none, more}
+use Rattle.gte_rows.specs.Listing.{Listing, listing, addRow, addRows, Adds, Lists}
 
 at-1 : (a : ℕ) → a + 1 ≡ suc a
 at-1 a = omega arith
@@ -49,19 +48,43 @@ no-fail b b′ t s q h = rw h (never (eqb b b′))
 pub failing : (b b′ : ℕ) (t : Bool) (p s q : Listing) → b ≡ b′ → t ≡ true → p ≡ q → p ≡ cond (eqb b b′ && t) q s
 failing b b′ t p s q e h k = rw (eq-eqb b b′ e, h) k
 
+-- ---- one list of rows after another
+pub rows-++ : (xs ys : List Row) (s : Listing) → addRows (xs ++ ys) s ≡ addRows ys (addRows xs s)
+unfolding addRows
+rows-++ [] ys s = refl
+rows-++ (r ∷ xs) ys s = rows-++ xs ys (addRow r s)
+
+pub after : {xs ys : List Row} {s t u : Listing} → Adds xs s t → Adds ys t u → Adds (xs ++ ys) s u
+after {xs} {ys} {s} e f = record { is = f .is ∙ ap (addRows ys) (e .is) ∙ sym (rows-++ xs ys s) }
+
+pub no-rows : (s : Listing) → Adds [] s s
+unfolding addRows
+no-rows s = record { is = refl }
+
 -- ---- one list of checks after another
-add-++ : (b p : ℕ) (xs ys : List Check) (s : Listing) → addCauses b p (xs ++ ys) s ≡ addCauses b p ys (addCauses b p xs s)
-unfolding addCauses
-add-++ b p [] ys s = refl
-add-++ b p (c ∷ xs) ys s = add-++ b p xs ys (cond (caused b c) (addRow (rowOf p c) s) s)
+chosen : (t : Bool) (r : Row) (xs ys zs : List Row) → xs ≡ ys ++ zs → cond t (r ∷ xs) xs ≡ cond t (r ∷ ys) ys ++ zs
+chosen true r xs ys zs h = ap (λ (rs : List Row). r ∷ rs) h
+chosen false r xs ys zs h = h
+
+causes-++ : (b p : ℕ) (xs ys : List Check) → causes b p (xs ++ ys) ≡ causes b p xs ++ causes b p ys
+unfolding causes
+causes-++ b p [] ys = refl
+causes-++ b p (c ∷ xs) ys = chosen (caused b c) (rowOf p c) (causes b p (xs ++ ys)) (causes b p xs) (causes b p ys) (causes-++ b p xs ys)
 
 whole-++ : {xs ys : List Check} → AllWhole xs → AllWhole ys → AllWhole (xs ++ ys)
 whole-++ none k = k
 whole-++ (more h g) k = more h (whole-++ g k)
 
 pub then : {b p : ℕ} {xs ys : List Check} {s t u : Listing} → Lists b p xs s t → Lists b p ys t u → Lists b p (xs ++ ys) s u
-then {b} {p} {xs} {ys} {s} {t} {u} e f = record { is = f .is ∙ ap (addCauses b p ys) (e .is) ∙ sym (add-++ b p xs ys s); whole = whole-++ (e .whole) (f .whole) }
+then {b} {p} {xs} {ys} {s} {t} {u} e f =
+    record { rows = subst (λ (rs : List Row). Adds rs s u) (sym (causes-++ b p xs ys)) (after (e .rows) (f .rows)); whole = whole-++ (e .whole) (f .whole) }
+
+-- ---- one check
+lone : (t : Bool) (r : Row) (s : Listing) → cond t (addRow r s) s ≡ addRows (cond t (r ∷ []) []) s
+unfolding addRows
+lone true r s = refl
+lone false r s = refl
 
 pub one : (b p : ℕ) (c : Check) (s t : Listing) → Whole (c .test) → t ≡ cond (caused b c) (addRow (rowOf p c) s) s → Lists b p (c ∷ []) s t
-unfolding addCauses
-one b p c s t h e = record { is = e; whole = more h none }
+unfolding causes
+one b p c s t h e = record { rows = record { is = e ∙ lone (caused b c) (rowOf p c) s }; whole = more h none }

@@ -8,7 +8,7 @@ use lib.Dec.{leb}
 use lib.ListN.{length}
 use lib.Seq.{sets}
 use Rattle.gte_arithmetic.specs.Checks.{Check}
-use Rattle.gte_rows.specs.Rows.{Row, rowWords, rowOf, caused, AllWhole}
+use Rattle.gte_rows.specs.Rows.{Row, causes, rowWords, AllWhole}
 
 pub record Listing : Type 0 where
   pub count : ℕ
@@ -22,12 +22,16 @@ unfoldable pub addRow : Row → Listing → Listing
 addRow r s =
     listing (s .count + 5) (cond (leb (s .count + 5) (length (s .words))) (sets (s .words) (s .count) (rowWords r)) (s .words))
 
--- the rows of bit b in part p, check after check
-unfoldable pub addCauses : ℕ → ℕ → List Check → Listing → Listing
-addCauses b p [] s = s
-addCauses b p (c ∷ cs) s = addCauses b p cs (cond (caused b c) (addRow (rowOf p c) s) s)
+-- rows one after another
+unfoldable pub addRows : List Row → Listing → Listing
+addRows [] s = s
+addRows (r ∷ rs) s = addRows rs (addRow r s)
 
--- t is what listing the causes of bit b among the checks of part p leaves of s; and no value is longer than two words
+-- t is what these rows leave of s
+pub record Adds (rows : List Row) (s t : Listing) : Type 0 where
+  pub is : t ≡ addRows rows s
+
+-- t is what the rows of bit b among the checks of part p leave of s; and no value is longer than two words
 pub record Lists (b p : ℕ) (cs : List Check) (s t : Listing) : Type 0 where
-  pub is : t ≡ addCauses b p cs s
+  pub rows : Adds (causes b p cs) s t
   pub whole : AllWhole cs

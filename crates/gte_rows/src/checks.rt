@@ -1,5 +1,4 @@
 // The failing checks of each kind of value. k is 1, 2 or 3, the number of a MAC.
-ghost use mathlib.Core.Path.{_≡_};
 ghost use mathlib.Core.List.{[], _∷_};
 ghost use Prim.Native.Nat.{_+_, _*_, _^_, _≤_};
 ghost use Rattle.integers.specs.Parts.{Mag};

@@ -3,7 +3,7 @@ use Prim.Native.Nat.{ℕ, _≤_}
 use native.Mathlib.Omega.{arith}
 use mathlib.Core.Bool.{Bool, true, false, cond, _&&_, and-eq-true-iff}
 use mathlib.Core.List.{List, [], _∷_}
-use mathlib.Core.Path.{_≡_, refl, sym, ap, _∙_}
+use mathlib.Core.Path.{_≡_, refl, ap}
 use lib.Dec.{eqb, leb}
 use lib.ListN.{length, replicate}
 use borrow.Author.Tests.{eqb-true, leb-true, eq-eqb, ne-eqb, le-leb}
@@ -13,17 +13,17 @@ use Rattle.cpu_state.specs.State.{state}
 use Rattle.cpu_state.specs.declared.control.Control.{Control}
 use Rattle.image.specs.Image.{imageLength, registersIn, controlIn, geometryIn, controlOf, machineOf}
 use Rattle.image.specs.Formed.{formed, wellFormed}
-use Rattle.image.specs.Refusals.{mostSteps, Test, _else_, firstOf, imageTests, lentTests, refusalOf, imageRefusal, refusalAfter, readOf}
+use Rattle.image.specs.Refusals.{mostSteps, Test, _else_, firstOf, imageTests, lentTests, refusalOf, imageRefusal, refusalAfter, wordsOr, readOf}
 use Rattle.image.specs.declared.admission.Read.{Read}
 use Rattle.image.proofs.Facts.{formed-view}
 
--- ---- of any tests
-abbrev Pass : List Test → Type 0
+-- ---- of any tests: all pass
+abbrev pub Pass : List Test → Type 0
 Pass [] = Unit
 Pass ((ok else code) ∷ ts) = (ok ≡ true) × Pass ts
 
 -- every code is a number from 1 to most
-abbrev coded : ℕ → List Test → Bool
+abbrev pub coded : ℕ → List Test → Bool
 coded most [] = true
 coded most ((ok else code) ∷ ts) = (leb 1 code && leb code most) && coded most ts
 
@@ -38,13 +38,13 @@ codes most code ts h =
     let n = and-eq-true-iff (leb 1 code) (leb code most) .0 (s .0) in
     record { least = leb-true 1 code (n .0); greatest = leb-true code most (n .1); rest = s .1 }
 
-all-pass : (most : ℕ) (ts : List Test) → coded most ts ≡ true → firstOf ts ≡ 0 → Pass ts
+pub all-pass : (most : ℕ) (ts : List Test) → coded most ts ≡ true → firstOf ts ≡ 0 → Pass ts
 unfolding firstOf
 all-pass most [] c h = tt
 all-pass most ((true else code) ∷ ts) c h = (refl, all-pass most ts (codes most code ts c .rest) h)
 all-pass most ((false else code) ∷ ts) c h = let n = codes most code ts c .least in absurd (omega arith)
 
-none-fails : (ts : List Test) → Pass ts → firstOf ts ≡ 0
+pub none-fails : (ts : List Test) → Pass ts → firstOf ts ≡ 0
 unfolding firstOf
 none-fails [] p = refl
 none-fails ((ok else code) ∷ ts) p = rw (p .0) (none-fails ts (p .1))
@@ -108,12 +108,26 @@ code-of r m e = ap (λ (x : Read). x .code) e
 pub machine-of : (r : Read) (m x : List ℕ) → r ≡ readOf m → imageRefusal m ≡ 0 → state (r .control) (r .registers) (view (r .geometry)) x ≡ machineOf m x
 machine-of r m x e z = rw e (machine-read m x z)
 
--- its COP2 words are the image's
-pub geometry-of : (r : Read) (m : List ℕ) → r ≡ readOf m → imageRefusal m ≡ 0 → r .geometry ≡ geometryIn m
-unfolding imageRefusal readOf
-geometry-of r m e h = let p = all-pass 2 (imageTests m []) refl h in rw (e, p .0)
+-- ---- words that were read, where the image is accepted
+pub words-of : (m x ws other : List ℕ) → x ≡ wordsOr m ws other → imageRefusal m ≡ 0 → x ≡ ws
+unfolding imageRefusal
+words-of m x ws other e h = let p = all-pass 2 (imageTests m []) refl h in rw (p .0) at e
 
--- ---- what the code reads is what is read
+-- ---- what the code reads is what is read: of an image of another length, and of one of its own
+pub refused-length : (m : List ℕ) → (length m ≡ imageLength → ⊥) → 1 ≡ imageRefusal m
+unfolding imageRefusal firstOf
+refused-length m h = rw (ne-eqb (length m) imageLength h)
+
+pub words-kept : (m ws other : List ℕ) → (length m ≡ imageLength → ⊥) → other ≡ wordsOr m ws other
+words-kept m ws other h = rw (ne-eqb (length m) imageLength h)
+
+pub words-read : (m x ws other : List ℕ) → length m ≡ imageLength → x ≡ ws → x ≡ wordsOr m ws other
+words-read m x ws other long e = rw (eq-eqb (length m) imageLength long) e
+
+pub formed-code : (m r w g : List ℕ) (b : Bool) → length m ≡ imageLength → r ≡ registersIn m → w ≡ controlIn m → g ≡ geometryIn m → formed r w g ≡ b → cond b 0 2 ≡ imageRefusal m
+unfolding imageRefusal firstOf
+formed-code m r w g b long p q u f = rw (← f, p, q, u, eq-eqb (length m) imageLength long)
+
 pub read-other : (m : List ℕ) (c : Control) → (length m ≡ imageLength → ⊥) → c ≡ controlOf (replicate 12 0) → _≡_ {A = Read} (record { code = 1; control = c; registers = replicate 32 0; geometry = replicate 64 0 }) (readOf m)
 unfolding readOf imageRefusal firstOf
 read-other m c h e = rw (ne-eqb (length m) imageLength h, e)

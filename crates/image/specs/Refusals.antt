@@ -42,15 +42,17 @@ imageRefusal m = firstOf (imageTests m [])
 unfoldable pub refusalAfter : ℕ → ℕ → ℕ → ℕ
 refusalAfter code len count = cond (eqb code 0) (firstOf (lentTests len count)) code
 
--- what is read of an image: its words, or zeros where it has not the length of an image, and why it is refused
-abbrev pub wordsOr : List ℕ → List ℕ → ℕ → List ℕ
-wordsOr m ws n = cond (eqb (length m) imageLength) ws (replicate n 0)
+-- words of an image, or others where it has not the length of an image
+abbrev pub wordsOr : List ℕ → List ℕ → List ℕ → List ℕ
+wordsOr m ws other = cond (eqb (length m) imageLength) ws other
+
+-- what is read of an image: its words or zeros, and why it is refused
 
 unfoldable pub readOf : List ℕ → Read
 readOf m =
     record {
       code = imageRefusal m;
-      control = controlOf (wordsOr m (controlIn m) 12);
-      registers = wordsOr m (registersIn m) 32;
-      geometry = wordsOr m (geometryIn m) 64;
+      control = controlOf (wordsOr m (controlIn m) (replicate 12 0));
+      registers = wordsOr m (registersIn m) (replicate 32 0);
+      geometry = wordsOr m (geometryIn m) (replicate 64 0);
     }

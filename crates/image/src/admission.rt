@@ -1,7 +1,8 @@
 // What is read of an image, and which calls are refused.
 ghost use mathlib.Core.Bool.{cond};
 ghost use mathlib.Core.Path.{_≡_};
-ghost use Rattle.image.specs.Refusals.{readOf, refusalAfter};
+ghost use Rattle.image.specs.Image.{geometryIn};
+ghost use Rattle.image.specs.Refusals.{wordsOr, imageRefusal, readOf, refusalAfter};
 use crate::bytes::control_from;
 use crate::formed::well_formed;
 use byte_order::read_words;
@@ -48,6 +49,23 @@ pub fn read_image(image: &[u8]) -> Read
         registers: r,
         geometry: g,
     }
+}
+
+// The same of the COP2 words alone: they go to the lent ones, which keep what they have where the image is not 432 bytes long. It reads
+// on its own, since `read_image` becomes part of the run only as long as nothing else calls it.
+pub fn read_geometry(image: &[u8], g: &mut [u32; 64]) -> u64
+    ensures is { λ code. ⌜ code ≡ imageRefusal (now (image .entry)) ⌝ }
+    ensures words { λ _. ⌜ now (g .exit) ≡ wordsOr (now (image .entry)) (geometryIn (now (image .entry))) (now (g .entry)) ⌝ }
+{
+    let mut r = [0u32; 32];
+    let mut w = [0u32; 12];
+    if image.len() != 432 {
+        return 1;
+    }
+    read_words(image, 0, &mut r);
+    read_words(image, 128, &mut w);
+    read_words(image, 176, g);
+    form_code(well_formed(&r, &w, g))
 }
 
 // The run's refusal: that of its image, else 3 for RAM's length or 4 for the count, or 0.

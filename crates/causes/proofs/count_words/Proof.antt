@@ -1,3 +1,4 @@
+-- What is counted is the length of the rows in words.
 use borrow.Author.Needs.{needs}
 use Rattle.causes.proofs.Loop.{counted}
 use Rattle.causes.proofs.count_words.Statement.{statement}

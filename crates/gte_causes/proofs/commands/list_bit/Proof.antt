@@ -1,3 +1,4 @@
+-- Each arm lists the parts of its row of the table, and the rest is in no row.
 use borrow.Author.Needs.{needs}
 use mathlib.Core.Path.{refl}
 use Prim.Native.Nat.{_%_}

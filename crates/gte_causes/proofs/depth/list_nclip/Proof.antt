@@ -1,3 +1,4 @@
+-- The value is that of the three corners.
 use borrow.Author.Needs.{needs}
 use mir.Syntax.{w64}
 use Rattle.integers.specs.Bound.{back}

@@ -1,3 +1,4 @@
+-- The rows of lines 1 and 2, then those of the end.
 use borrow.Author.Needs.{needs}
 use native.Mathlib.Omega.{arith}
 use Rattle.gte_line.specs.Line.{lineChecksAt}

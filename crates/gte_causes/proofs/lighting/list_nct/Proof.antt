@@ -1,3 +1,4 @@
+-- Three parts, one after another.
 use borrow.Author.Needs.{needs}
 use native.Mathlib.Omega.{arith}
 use Rattle.gte_causes.proofs.Parts.{triple}

@@ -1,3 +1,4 @@
+-- The rows of the difference, then those of what it is mixed to.
 use borrow.Author.Needs.{needs}
 use native.Mathlib.Omega.{arith}
 use mir.Syntax.{w16}

@@ -1,3 +1,4 @@
+-- The rows of line 1, then those of line 2, which starts from line 1's IR.
 use borrow.Author.Needs.{needs}
 use native.Mathlib.Omega.{arith}
 use Rattle.gte_line.specs.Line.{lineChecksAt}

@@ -1,3 +1,4 @@
+-- The rows of three cells, each with a sum to test and another to store.
 use borrow.Author.Needs.{needs}
 use native.Mathlib.Omega.{arith}
 use mir.Syntax.{w64}

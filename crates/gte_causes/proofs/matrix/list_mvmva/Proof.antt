@@ -1,3 +1,4 @@
+-- Matrix, translation and vector are those of the word's bits.
 use borrow.Author.Needs.{needs}
 use Rattle.gte_causes.proofs.matrix.list_mvmva.Statement.{statement}
 use Rattle.gte_causes.proofs.matrix.list_mvmva.Tie as tie

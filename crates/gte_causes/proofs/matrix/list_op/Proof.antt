@@ -1,3 +1,4 @@
+-- The sums are those of IR and the diagonal.
 use borrow.Author.Needs.{needs}
 use Rattle.gte_causes.proofs.matrix.list_op.Statement.{statement}
 use Rattle.gte_causes.proofs.matrix.list_op.Tie as tie

@@ -1,3 +1,4 @@
+-- With cv = 2 the far way, else one line.
 use borrow.Author.Needs.{needs}
 use borrow.Author.Tests.{eq-eqb, ne-eqb}
 use Rattle.gte_causes.proofs.matrix.list_product.Statement.{statement}

@@ -1,3 +1,4 @@
+-- The sums are those of IR.
 use borrow.Author.Needs.{needs}
 use Rattle.gte_causes.proofs.matrix.list_sqr.Statement.{statement}
 use Rattle.gte_causes.proofs.matrix.list_sqr.Tie as tie

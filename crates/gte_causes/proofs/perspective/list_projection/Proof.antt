@@ -1,39 +1,27 @@
+-- The rows of each line in turn; lines 5 to 7 read what the first lines leave.
 use borrow.Author.Needs.{needs}
-use Prim.Native.Nat.{_<_}
 use native.Mathlib.Omega.{arith}
-use lib.IntN.{ℤ, pos, natAbs}
 use mir.Syntax.{w16, w64}
 use Rattle.integers.specs.Bound.{back}
-use Rattle.integers.specs.Parts.{posPart, negPart, zarith, pos-nonneg, natAbs-gap}
-use Rattle.integers.specs.Clamp.{clamp, clamp-low, clamp-high}
-use Rattle.gte_arithmetic.specs.Values.{depthOf}
-use Rattle.gte_perspective.specs.Projection.{farOf, vertexOf, vertexChecks}
+use Rattle.gte_perspective.specs.Projection.{vertexChecks}
 use Rattle.gte_rows.proofs.Listings.{then}
 use Rattle.gte_causes.proofs.perspective.list_projection.Statement.{statement}
 use Rattle.gte_causes.proofs.perspective.list_projection.Tie as tie
 
-depth-small : (z : ℤ) → depthOf z < 65536
-unfolding depthOf posPart negPart
-depth-small z =
-    let l = clamp-low (pos 0) (pos 0xffff) z (pos-nonneg 0xffff) in
-    let u = clamp-high (pos 0) (pos 0xffff) z (pos-nonneg 0xffff) in
-    omega (zarith, natAbs-gap (clamp (pos 0) (pos 0xffff) z))
-
 list-third-requires : tie.Need-list-third-requires
-list-third-requires c κs = (omega (arith, c .before .before .before .before .before .before .before .before .before .before .list-cell .ensures .1, c .before .before .before .before .list-cell2 .ensures .1, c .before .before .before .before .before .before .before .before .before .before .before .before .before .before .before .before .before .pre .0), rw (back w64 (c .before .before .before .before .before .before .before .before .before .before .before .before .before .before .before .before .before .args .s .z) (c .struct-told5 .given .1 .1 .0 .1)) (c .before .before .before .before .before .before .before .before .before .before .before .before .before .before .before .before .before .pre .1 .z))
+list-third-requires c κs = (omega (arith, c .before .before .before .before .before .before .before .before .before .before .list-cell .ensures .1, c .before .before .before .before .list-cell2 .ensures .1, c .before .before .before .before .before .before .before .before .before .before .before .before .before .before .before .before .pre .0), rw (back w64 (c .before .before .before .before .before .before .before .before .before .before .before .before .before .before .before .before .args .s .z) (c .struct-told5 .given .1 .1 .0 .1)) (c .before .before .before .before .before .before .before .before .before .before .before .before .before .before .before .before .pre .1 .z))
 
 list-to-screen-requires : tie.Need-list-to-screen-requires
-unfolding vertexOf
-list-to-screen-requires c κs = (omega (arith, c .before .before .before .before .before .before .before .before .before .before .before .before .before .before .before .before .list-cell .ensures .1, c .before .before .before .before .before .before .before .before .before .before .list-cell2 .ensures .1, c .before .before .before .before .before .list-third .ensures .1, c .before .before .before .before .before .before .before .before .before .before .before .before .before .before .before .before .before .before .before .before .before .before .before .pre .0), rw (c .before .before .before .before .before .before .before .before .before .before .before .before .before .before .before .before .before .before .before .before .before .project .ensures) (depth-small (farOf (c .before .before .before .before .before .before .before .before .before .before .before .before .before .before .before .before .before .before .before .before .before .before .before .args .s .z))))
+list-to-screen-requires c κs = (omega (arith, c .before .before .before .before .before .before .before .before .before .before .before .before .before .before .before .before .list-cell .ensures .1, c .before .before .before .before .before .before .before .before .before .before .list-cell2 .ensures .1, c .before .before .before .before .before .list-third .ensures .1, c .before .before .before .before .before .before .before .before .before .before .before .before .before .before .before .before .before .before .before .before .before .before .pre .0), c .before .before .before .before .before .before .before .before .before .before .before .before .before .before .before .before .before .before .before .before .first-lines .ensures .1)
 
 returns : tie.Need-returns
-unfolding vertexOf vertexChecks
-returns c = let s = c .before .before .before .before .before .before .before .before .before .before .before .before .before .before .before .before .before .before .before .before .before .before .before .before .before .before .args .s in
-    let v = c .before .before .before .before .before .before .before .before .before .before .before .before .before .before .before .before .before .before .before .before .before .before .before .before .project .result in
+unfolding vertexChecks
+returns c = let s = c .before .before .before .before .before .before .before .before .before .before .before .before .before .before .before .before .before .before .before .before .before .before .before .before .before .args .s in
+    let e = c .before .before .before .before .before .before .before .before .before .before .before .before .before .before .before .before .before .before .before .before .before .before .before .first-lines .result in
     let x = rw (back w64 (s .x) (c .before .before .before .before .before .before .before .before .before .before .before .before .before .before .before .before .before .before .before .before .before .struct-told .given .0 .1)) at (c .before .before .before .before .before .before .before .before .before .before .before .before .before .before .before .before .before .before .before .list-cell .ensures .0) in
     let y = rw (back w64 (s .y) (c .before .before .before .before .before .before .before .before .before .before .before .before .before .before .before .struct-told3 .given .1 .0 .1)) at (c .before .before .before .before .before .before .before .before .before .before .before .before .before .list-cell2 .ensures .0) in
     let z = rw (back w64 (s .z) (c .before .before .before .before .before .before .before .before .before .struct-told5 .given .1 .1 .0 .1)) at (c .before .before .before .before .before .before .before .before .list-third .ensures .0) in
-    let p = rw (back w16 (v .ir .x) (c .before .before .before .before .struct-told6 .given .0 .1), back w16 (v .ir .y) (c .before .before .before .struct-told7 .given .1 .0 .1), c .before .before .before .before .before .before .before .before .before .before .before .before .before .before .before .before .before .before .before .before .before .before .before .before .project .ensures) at (c .before .before .list-to-screen .ensures .0) in
+    let p = rw (back w16 (e .ir1) (c .before .before .before .before .struct-told6 .given .1 .0 .1), back w16 (e .ir2) (c .before .before .before .struct-told7 .given .1 .1 .0 .1), c .before .before .before .before .before .before .before .before .before .before .before .before .before .before .before .before .before .before .before .before .before .before .before .first-lines .ensures .0) at (c .before .before .list-to-screen .ensures .0) in
     (then (then (then x y) z) p, omega (arith, c .before .before .before .before .before .before .before .before .before .before .before .before .before .before .before .before .before .before .before .list-cell .ensures .1, c .before .before .before .before .before .before .before .before .before .before .before .before .before .list-cell2 .ensures .1, c .before .before .before .before .before .before .before .before .list-third .ensures .1, c .before .before .list-to-screen .ensures .1))
 
 pub list-projection-spec : {M : Type 1} → statement M

@@ -1,3 +1,4 @@
+-- The row of the quotient, then those of lines 5, 6 and 7.
 use borrow.Author.Needs.{needs}
 use native.Mathlib.Omega.{arith}
 use mir.Syntax.{w64}

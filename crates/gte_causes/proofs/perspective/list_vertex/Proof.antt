@@ -1,3 +1,4 @@
+-- The sums are those of the registers.
 use borrow.Author.Needs.{needs}
 use Rattle.gte_perspective.specs.Vertices.{rotated}
 use Rattle.gte_causes.proofs.perspective.list_vertex.Statement.{statement}

@@ -1,3 +1,4 @@
+-- Three values of one quotient.
 use borrow.Author.Needs.{needs}
 use mir.Syntax.{w16, w32, w64}
 use mir.Facts.{toZ-ofZ}

@@ -1,3 +1,4 @@
+-- It starts from RGBC.
 use borrow.Author.Needs.{needs}
 use Rattle.gte_colour.proofs.CueingLines.{code}
 use Rattle.gte_causes.proofs.shading.list_dpcs.Statement.{statement}

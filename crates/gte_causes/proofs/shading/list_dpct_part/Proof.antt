@@ -1,3 +1,4 @@
+-- It starts from the queue's colour.
 use borrow.Author.Needs.{needs}
 use Rattle.gte_shading.proofs.Queue.{place}
 use Rattle.gte_causes.proofs.shading.list_dpct_part.Statement.{statement}

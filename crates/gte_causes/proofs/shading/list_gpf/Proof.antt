@@ -1,3 +1,4 @@
+-- The sums are IR times IR0.
 use borrow.Author.Needs.{needs}
 use mir.Syntax.{w16}
 use Rattle.integers.specs.Bound.{back}

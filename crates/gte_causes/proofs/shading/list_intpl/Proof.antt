@@ -1,3 +1,4 @@
+-- It starts from IR.
 use borrow.Author.Needs.{needs}
 use Rattle.gte_causes.proofs.shading.list_intpl.Statement.{statement}
 use Rattle.gte_causes.proofs.shading.list_intpl.Tie as tie

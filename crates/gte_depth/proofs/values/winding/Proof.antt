@@ -1,3 +1,4 @@
+-- The value is stored as MAC0.
 use borrow.Author.Needs.{needs}
 use mir.Syntax.{w64}
 use Rattle.integers.specs.Bound.{back}

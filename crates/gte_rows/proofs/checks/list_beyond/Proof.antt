@@ -1,3 +1,4 @@
+-- A value is outside where it is not within.
 use borrow.Author.Needs.{needs}
 use mathlib.Core.Bool.{Bool, true, false, not}
 use mathlib.Core.Path.{_≡_, refl}

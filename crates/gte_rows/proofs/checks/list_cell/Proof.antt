@@ -1,3 +1,4 @@
+-- The rows of the sum, then that of IR from the stored value.
 use borrow.Author.Needs.{needs}
 use native.Mathlib.Omega.{arith}
 use mir.Syntax.{w32, w64}

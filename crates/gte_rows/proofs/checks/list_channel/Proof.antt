@@ -1,3 +1,4 @@
+-- The rows of the sum, then those of its IR and colour.
 use borrow.Author.Needs.{needs}
 use native.Mathlib.Omega.{arith}
 use mir.Facts.{toZ-ofZ}

@@ -1,3 +1,4 @@
+-- Stored MAC fits 64 bits, and so does a sixteenth of it.
 use borrow.Author.Needs.{needs}
 use mir.Syntax.{w32, w64}
 use mir.Facts.{toZ-ofZ, sfits-widen}

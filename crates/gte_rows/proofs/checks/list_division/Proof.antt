@@ -1,3 +1,4 @@
+-- The two words are H and SZ3.
 use borrow.Author.Needs.{needs}
 use Rattle.gte_rows.proofs.Listings.{one}
 use Rattle.gte_rows.proofs.checks.list_division.Statement.{statement}

@@ -1,3 +1,4 @@
+-- The row of IR, then that of the colour, from the same stored value.
 use borrow.Author.Needs.{needs}
 use native.Mathlib.Omega.{arith}
 use mir.Syntax.{w32, w64}

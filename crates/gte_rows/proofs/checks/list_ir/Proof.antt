@@ -1,3 +1,4 @@
+-- The lowest value is that of lm.
 use borrow.Author.Needs.{needs}
 use mir.Syntax.{w64}
 use mir.Facts.{toZ-ofZ}

@@ -1,3 +1,4 @@
+-- Five stores one after another, or none where the row does not fit.
 use borrow.Author.Needs.{needs}
 use native.Mathlib.Omega.{arith}
 use lib.ListN.{length-set}

@@ -1,3 +1,4 @@
+-- Another bit, a check that passes, and one that fails.
 use borrow.Author.Needs.{needs}
 use native.Mathlib.Omega.{arith}
 use borrow.Author.Tests.{not-true, not-false}

@@ -1,3 +1,4 @@
+-- The two words are the low ones of the value and of the value shifted by 32.
 use borrow.Author.Needs.{needs}
 use Prim.Native.Nat.{_^_}
 use mir.Syntax.{w64}

@@ -1,0 +1,9 @@
+pub mod Tests
+pub mod Members
+pub mod Bits
+pub mod Order
+pub mod Value
+pub mod Rows
+pub mod Most
+pub mod Exact
+pub mod Ignored
