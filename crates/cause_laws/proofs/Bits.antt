@@ -1,4 +1,5 @@
--- Every check of every command has a bit of 12..30, and in each part the checks of one bit stand on ascending lines.
+-- Every check of every command has a bit of 12..30, in each part the checks of one bit stand on rising lines, and there are at most 117:
+-- one computed test for each command.
 use mathlib.Core.Bool.{Bool, true, false, cond, _&&_}
 use mathlib.Core.List.{List, [], _∷_}
 use mathlib.Core.Path.{_≡_, refl}

@@ -1,5 +1,5 @@
 -- Rows are causes, and causes whose bits are 12..30 are rows.
-use mathlib.Core.Bool.{Bool, true, false, cond, _&&_}
+use mathlib.Core.Bool.{Bool, true, false, cond}
 use mathlib.Core.List.{List, [], _∷_, _++_}
 use mathlib.Core.Path.{_≡_, refl, subst}
 use Prim.Native.Nat.{ℕ, zero, suc, _+_, _<_, _≤_}
@@ -8,6 +8,7 @@ use borrow.Author.Tests.{eq-eqb, eqb-true, eqb-false}
 use lib.Dec.{eqb}
 use Rattle.gte_arithmetic.specs.Checks.{Check, fails}
 use Rattle.gte_rows.specs.Rows.{Row, rowOf, caused, causes, partRows, rowsDown}
+use Rattle.cause_laws.proofs.Tests.{and-2}
 use Rattle.cause_laws.specs.Rows.{In, here, later, All, none, more, PartFrom, first, next}
 
 -- ---- what holds of every member
@@ -19,13 +20,8 @@ pub all-in : {A : Type 0} {P : A → Type 0} {xs : List A} {a : A} → All P xs 
 all-in (more p h) here = p
 all-in (more p h) (later i) = all-in h i
 
-and-true : (s t : Bool) → (s && t) ≡ true → t ≡ true
-and-true true t e = e
-and-true false true e = refl
-and-true false false e = e
-
 -- ---- each row is a cause
-one : (t : Bool) (P : Row → Type 0) (r : Row) (rest : List Row) → (t ≡ true → P r) → All P rest → All P (cond t (r ∷ rest) rest)
+pub one : (t : Bool) (P : Row → Type 0) (r : Row) (rest : List Row) → (t ≡ true → P r) → All P rest → All P (cond t (r ∷ rest) rest)
 one true P r rest h k = more (h refl) k
 one false P r rest h k = k
 
@@ -35,7 +31,7 @@ causes-all : (P : Row → Type 0) (b p : ℕ) (cs : List Check)
 unfolding causes
 causes-all P b p [] h = none
 causes-all P b p (c ∷ cs) h =
-    one (caused b c) P (rowOf p c) (causes b p cs) (λ e. h c here (and-true (eqb (c .bit) b) (fails (c .test)) e)) (causes-all P b p cs (λ d i e. h d (later i) e))
+    one (caused b c) P (rowOf p c) (causes b p cs) (λ e. h c here (and-2 (eqb (c .bit) b) (fails (c .test)) e)) (causes-all P b p cs (λ d i e. h d (later i) e))
 
 parts-all : (P : Row → Type 0) (b n : ℕ) (parts : List (List Check))
     → ((p : ℕ) (cs : List Check) (c : Check) → PartFrom cs n p parts → In c cs → fails (c .test) ≡ true → P (rowOf p c))

@@ -1,25 +1,19 @@
--- A command has at most 117 rows: a check has one bit, so it is listed once, and no command makes more checks.
+-- A command has at most as many rows as checks, since a check has one bit and is listed once.
 use mathlib.Core.Bool.{Bool, true, false, cond}
 use mathlib.Core.List.{List, [], _∷_}
 use mathlib.Core.Path.{_≡_, refl, sym, ap, _∙_}
 use Prim.Native.Nat.{ℕ, zero, suc, _+_, _*_, _≤_}
 use native.Mathlib.Omega.{arith}
-use borrow.Author.Tests.{leb-true, ne-eqb, eqb-true}
-use lib.Dec.{leb, eqb}
+use borrow.Author.Tests.{ne-eqb, eqb-true}
+use lib.Dec.{eqb}
 use lib.ListN.{length, length-append}
 use Rattle.gte_arithmetic.specs.Checks.{Check}
-use Rattle.gte_line.specs.Line.{lineChecksAt}
-use Rattle.gte_colour.specs.Shade.{shadeChecks}
-use Rattle.gte_colour.specs.Cueing.{cuedChecks}
-use Rattle.gte_inputs.specs.Inputs.{Inputs, inputsOf}
-use Rattle.gte_lighting.specs.Normals.{ncsChecks, lastChecks}
-use Rattle.gte_matrix.specs.Multiply.{farChecks}
-use Rattle.gte_depth.specs.Depth.{averageChecks}
-use Rattle.gte_perspective.specs.Projection.{vertexChecks}
-use Rattle.gte_perspective.specs.Perspective.{screenChecks}
-use Rattle.gte.specs.Commands.{Command, RTPS, NCLIP, OP, DPCS, INTPL, MVMVA, NCDS, CDP, NCDT, NCCS, CC, NCS, NCT, SQR, DCPL, DPCT, AVSZ3, AVSZ4, RTPT, GPF, GPL, NCCT, unlisted, partsOf, cvOf, commandIn, sfOf, lmOf}
+use Rattle.gte_inputs.specs.Inputs.{inputsOf}
+use Rattle.gte.specs.Commands.{partsOf, commandIn, sfOf, lmOf}
 use Rattle.gte_rows.specs.Rows.{Row, rowOf, caused, causes, partRows, rowsDown, wordsOf}
 use Rattle.gte_causes.specs.Causes.{rowsAt}
+use Rattle.cause_laws.proofs.Tests.{size, small-fine}
+use Rattle.cause_laws.proofs.Bits.{all-fine}
 
 -- ---- how many rows of k bits a part has, and all parts
 abbrev count : ℕ → ℕ → List Check → ℕ
@@ -98,47 +92,13 @@ part-most k p (c ∷ cs) =
     let g = grows k p c cs in
     omega arith
 
--- ---- of every command
-abbrev size : List (List Check) → ℕ
-size [] = 0
-size (cs ∷ parts) = length cs + size parts
-
+-- ---- of all parts
 parts-most : (k p : ℕ) (parts : List (List Check)) → counts k p parts ≤ size parts
 parts-most k p [] = omega arith
 parts-most k p (cs ∷ parts) =
     let h = part-most k p cs in
     let i = parts-most k (suc p) parts in
     omega arith
-
-either : (t : Bool) (p q : List Check) → leb (size (p ∷ [])) 117 ≡ true → leb (size (q ∷ [])) 117 ≡ true → leb (size (cond t p q ∷ [])) 117 ≡ true
-either true p q e f = e
-either false p q e f = f
-
-small : (c : Command) (sf lm : Bool) (word : ℕ) (i : Inputs) → leb (size (partsOf c sf lm word i)) 117 ≡ true
-unfolding partsOf lineChecksAt shadeChecks cuedChecks ncsChecks lastChecks farChecks averageChecks vertexChecks screenChecks
-small RTPS sf lm word i = refl
-small NCLIP sf lm word i = refl
-small OP sf lm word i = refl
-small DPCS sf lm word i = refl
-small INTPL sf lm word i = refl
-small MVMVA sf lm word i = either (eqb (cvOf word) 2) _ _ refl refl
-small NCDS sf lm word i = refl
-small CDP sf lm word i = refl
-small NCDT sf lm word i = refl
-small NCCS sf lm word i = refl
-small CC sf lm word i = refl
-small NCS sf lm word i = refl
-small NCT sf lm word i = refl
-small SQR sf lm word i = refl
-small DCPL sf lm word i = refl
-small DPCT sf lm word i = refl
-small AVSZ3 sf lm word i = refl
-small AVSZ4 sf lm word i = refl
-small RTPT sf lm word i = refl
-small GPF sf lm word i = refl
-small GPL sf lm word i = refl
-small NCCT sf lm word i = refl
-small unlisted sf lm word i = refl
 
 -- five words for each row
 pub five : (rows : List Row) → length (wordsOf rows) ≡ 5 * length rows
@@ -152,5 +112,5 @@ most word w =
     let a = five (rowsDown 19 parts) in
     let b = rows-count 19 parts in
     let d = parts-most 19 1 parts in
-    let e = leb-true (size parts) 117 (small (commandIn word) (sfOf word) (lmOf word) word (inputsOf w)) in
+    let e = small-fine parts (all-fine (commandIn word) (sfOf word) (lmOf word) word (inputsOf w)) in
     omega arith

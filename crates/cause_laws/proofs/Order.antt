@@ -9,7 +9,7 @@ use lib.Dec.{eqb}
 use Rattle.gte_arithmetic.specs.Checks.{Check, fails}
 use Rattle.gte_rows.specs.Rows.{Row, rowOf, caused, causes, partRows, rowsDown}
 use Rattle.cause_laws.specs.Rows.{All, none, more, Before, higher, earlier, ahead, Sorted, empty, row}
-use Rattle.cause_laws.proofs.Members.{all-++}
+use Rattle.cause_laws.proofs.Members.{all-++, one}
 use Rattle.cause_laws.proofs.Tests.{and-1, and-2, apart, follows, ordered, allOrdered}
 
 -- ---- two sorted lists in a row
@@ -25,10 +25,6 @@ each f (more p h) = more (f _ p) (each f h)
 record Of (b p : ℕ) (r : Row) : Type 0 where
   bit : r .bit ≡ b
   part : r .part ≡ p
-
-one : (t : Bool) (P : Row → Type 0) (r : Row) (rest : List Row) → (t ≡ true → P r) → All P rest → All P (cond t (r ∷ rest) rest)
-one true P r rest h k = more (h refl) k
-one false P r rest h k = k
 
 of-bit : (b : ℕ) (c : Check) → caused b c ≡ true → c .bit ≡ b
 of-bit b c e = eqb-true (c .bit) b (and-1 (eqb (c .bit) b) (fails (c .test)) e)

@@ -1,5 +1,5 @@
 -- The rows of a command are its causes, and FLAG has their bits.
-use mathlib.Core.Bool.{Bool, true, false, cond, _||_}
+use mathlib.Core.Bool.{Bool, true, false, cond, _||_, or-assoc, or-false}
 use mathlib.Core.List.{List, [], _∷_, _++_}
 use mathlib.Core.Path.{_≡_, refl, sym, ap, ap₂, _∙_, subst}
 use Prim.Native.Nat.{ℕ, zero, suc, _+_, _<_, _≤_}
@@ -24,20 +24,12 @@ use Rattle.cause_laws.proofs.Value.{value}
 use Rattle.cause_laws.proofs.Members.{all-in, rows-all, cause-has}
 use Rattle.cause_laws.proofs.Bits.{all-fine, part-ranged}
 use Rattle.cause_laws.proofs.Order.{rows-sorted}
-use Rattle.cause_laws.proofs.Tests.{and-1, and-2, allRanged, allOrdered}
+use Rattle.cause_laws.proofs.Tests.{and-1, ranged-fine, ordered-fine}
 
 -- ---- rows with a bit
-or-or : (x y z : Bool) → (x || (y || z)) ≡ ((x || y) || z)
-or-or true y z = refl
-or-or false y z = refl
-
-or-false : (x : Bool) → (x || false) ≡ x
-or-false true = refl
-or-false false = refl
-
 has-++ : (b : ℕ) (xs ys : List Row) → hasRow b (xs ++ ys) ≡ (hasRow b xs || hasRow b ys)
 has-++ b [] ys = refl
-has-++ b (x ∷ xs) ys = ap (λ (t : Bool). eqb (x .bit) b || t) (has-++ b xs ys) ∙ or-or (eqb (x .bit) b) (hasRow b xs) (hasRow b ys)
+has-++ b (x ∷ xs) ys = ap (λ (t : Bool). eqb (x .bit) b || t) (has-++ b xs ys) ∙ sym (or-assoc (eqb (x .bit) b) (hasRow b xs) (hasRow b ys))
 
 -- the rows of bit b
 set : (t : Bool) (b : ℕ) (r : Row) (rest : List Row) → (t ≡ true → eqb (r .bit) b ≡ true) → hasRow b (cond t (r ∷ rest) rest) ≡ (t || hasRow b rest)
@@ -153,7 +145,7 @@ rows-law word w h e f =
           (rows-all (Cause parts) 19 parts
           (λ p cs c q k g. record { part = p; checks = cs; check = c; is-part = q; in-part = k; failing = g; row = refl; tells = tells (c .test) (part-whole f q k) }))
           i;
-      complete = λ p cs c q i g. let l = part-ranged q i (and-1 (allRanged parts) (allOrdered parts) fine) in cause-has q i g (l .0) (l .1);
-      sorted = rows-sorted 19 parts (and-2 (allRanged parts) (allOrdered parts) fine);
+      complete = λ p cs c q i g. let l = part-ranged q i (ranged-fine parts fine) in cause-has q i g (l .0) (l .1);
+      sorted = rows-sorted 19 parts (ordered-fine parts fine);
       flag = λ b l u. own word w h e b l u ∙ some-joined b parts ∙ sym (has-down 19 b parts l (omega arith));
     }

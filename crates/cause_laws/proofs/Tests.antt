@@ -1,9 +1,11 @@
 -- Tests of lists of checks that compute.
-use mathlib.Core.Bool.{Bool, true, false, cond, _&&_}
+use mathlib.Core.Bool.{Bool, true, cond, _&&_, and-eq-true-iff}
 use mathlib.Core.List.{List, [], _∷_}
-use mathlib.Core.Path.{_≡_, refl}
-use Prim.Native.Nat.{suc}
+use mathlib.Core.Path.{_≡_}
+use Prim.Native.Nat.{ℕ, suc, _+_, _≤_}
+use borrow.Author.Tests.{leb-true}
 use lib.Dec.{leb, eqb}
+use lib.ListN.{length}
 use Rattle.gte_arithmetic.specs.Checks.{Check}
 
 -- every bit is one of 12..30
@@ -31,15 +33,26 @@ abbrev pub allOrdered : List (List Check) → Bool
 allOrdered [] = true
 allOrdered (cs ∷ parts) = ordered cs && allOrdered parts
 
+-- how many there are
+abbrev pub size : List (List Check) → ℕ
+size [] = 0
+size (cs ∷ parts) = length cs + size parts
+
+-- all three, of every part; no command makes more than 117 checks
+abbrev pub fine : List (List Check) → Bool
+fine parts = allRanged parts && (allOrdered parts && leb (size parts) 117)
+
 pub and-1 : (s t : Bool) → (s && t) ≡ true → s ≡ true
-and-1 true t e = refl
-and-1 false t e = e
+and-1 s t e = and-eq-true-iff s t .0 e .0
 
 pub and-2 : (s t : Bool) → (s && t) ≡ true → t ≡ true
-and-2 true t e = e
-and-2 false true e = refl
-and-2 false false e = e
+and-2 s t e = and-eq-true-iff s t .0 e .1
 
--- both tests of each part
-abbrev pub fine : List (List Check) → Bool
-fine parts = allRanged parts && allOrdered parts
+pub ranged-fine : (parts : List (List Check)) → fine parts ≡ true → allRanged parts ≡ true
+ranged-fine parts e = and-1 (allRanged parts) (allOrdered parts && leb (size parts) 117) e
+
+pub ordered-fine : (parts : List (List Check)) → fine parts ≡ true → allOrdered parts ≡ true
+ordered-fine parts e = and-1 (allOrdered parts) (leb (size parts) 117) (and-2 (allRanged parts) (allOrdered parts && leb (size parts) 117) e)
+
+pub small-fine : (parts : List (List Check)) → fine parts ≡ true → size parts ≤ 117
+small-fine parts e = leb-true (size parts) 117 (and-2 (allOrdered parts) (leb (size parts) 117) (and-2 (allRanged parts) (allOrdered parts && leb (size parts) 117) e))

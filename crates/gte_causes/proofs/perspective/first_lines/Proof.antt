@@ -1,22 +1,11 @@
 -- IR1, IR2 and SZ3 as the command has them; SZ3 has 16 bits.
 use borrow.Author.Needs.{needs}
-use Prim.Native.Nat.{_<_}
-use lib.IntN.{ℤ, pos}
 use mir.Syntax.{w16, w64}
 use Rattle.integers.specs.Bound.{back}
-use Rattle.integers.specs.Parts.{posPart, negPart, zarith, pos-nonneg, natAbs-gap}
-use Rattle.integers.specs.Clamp.{clamp, clamp-low, clamp-high}
-use Rattle.gte_arithmetic.specs.Values.{depthOf}
 use Rattle.gte_line.specs.Line.{cellOf}
+use Rattle.gte_perspective.proofs.Joined.{depth-small}
 use Rattle.gte_causes.proofs.perspective.first_lines.Statement.{statement}
 use Rattle.gte_causes.proofs.perspective.first_lines.Tie as tie
-
-depth-small : (z : ℤ) → depthOf z < 65536
-unfolding depthOf posPart negPart
-depth-small z =
-    let l = clamp-low (pos 0) (pos 0xffff) z (pos-nonneg 0xffff) in
-    let u = clamp-high (pos 0) (pos 0xffff) z (pos-nonneg 0xffff) in
-    omega (zarith, natAbs-gap (clamp (pos 0) (pos 0xffff) z))
 
 returns : tie.Need-returns
 unfolding cellOf
