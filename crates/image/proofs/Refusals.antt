@@ -44,7 +44,7 @@ all-pass most [] c h = tt
 all-pass most ((true else code) ∷ ts) c h = (refl, all-pass most ts (codes most code ts c .rest) h)
 all-pass most ((false else code) ∷ ts) c h = let n = codes most code ts c .least in absurd (omega arith)
 
-pub none-fails : (ts : List Test) → Pass ts → firstOf ts ≡ 0
+none-fails : (ts : List Test) → Pass ts → firstOf ts ≡ 0
 unfolding firstOf
 none-fails [] p = refl
 none-fails ((ok else code) ∷ ts) p = rw (p .0) (none-fails ts (p .1))
