@@ -1,25 +1,27 @@
 -- The call's answer row by row, from what its contract says.
-use mathlib.Core.Bool.{Bool, true, cond}
+use mathlib.Core.Bool.{Bool, true, false, cond}
 use mathlib.Core.List.{List, [], _∷_, _++_}
 use mathlib.Core.Path.{_≡_, refl, sym, ap, _∙_, subst}
-use Prim.Native.Nat.{ℕ, zero, suc, _+_, _≤_}
+use Prim.Native.Nat.{ℕ, _+_, _≤_}
 use native.Mathlib.Omega.{arith}
-use borrow.Author.Tests.{ne-eqb, leb-true}
+use borrow.Author.Tests.{ne-eqb, leb-true, leb-false, le-leb}
+use lib.Dec.{eqb, leb}
 use lib.ListN.{length, drop, length-append, length-drop}
 use lib.Seq.{drop-append-seam}
-use Rattle.byte_order.specs.Bytes.{wordsAt}
+use Rattle.byte_order.proofs.Rows.{length-wordsAt}
 use Rattle.gte_rows.specs.Rows.{Row, wordsOf}
 use Rattle.gte.specs.Commands.{outcomeOf, isDone}
 use Rattle.gte.specs.declared.Outcome.{Outcome}
 use Rattle.gte.specs.declared.Outcome.the-variants.{Done, Unlisted}
 use Rattle.gte_causes.specs.Causes.{rowsAt}
 use Rattle.answer.specs.declared.Answer.{Answer}
-use Rattle.image.specs.Image.{geometryIn}
-use Rattle.image.specs.Refusals.{_else_, imageTests}
+use Rattle.image.specs.Image.{imageLength, geometryIn}
+use Rattle.image.specs.Formed.{wellFormed}
+use Rattle.image.specs.Refusals.{_else_, firstOf, imageTests}
 use Rattle.image.proofs.Refusals.{all-pass}
 use Rattle.causes.specs.Causes.{Answered, causeWords, spaceTest, codeOf, numberOf, wordsAfter, causesOf, Causes}
 use Rattle.cause_laws.specs.Rows.{RowsExact}
-use Rattle.cause_laws.specs.Exact.{rowsIn, CausesLaw, RefusedLaw}
+use Rattle.cause_laws.specs.Exact.{rowsIn, CausesLaw, RefusedLaw, ShortLaw}
 use Rattle.cause_laws.proofs.Rows.{rows-law}
 use Rattle.cause_laws.proofs.Most.{five, most}
 
@@ -28,12 +30,6 @@ rows-back : (rows : List Row) (rest : List ℕ) → rowsIn (length rows) (wordsO
 unfolding wordsOf
 rows-back [] rest = refl
 rows-back (r ∷ rows) rest = ap (λ (rs : List Row). r ∷ rs) (rows-back rows rest)
-
--- ---- the 64 words of an image
-words-long : (m : List ℕ) (at n : ℕ) → length (wordsAt m at n) ≡ n
-unfolding wordsAt
-words-long m at zero = refl
-words-long m at (suc n) = ap suc (words-long m (at + 4) n)
 
 -- ---- what a contract's equation says of each part of the answer
 module _ {m : List ℕ} {word : ℕ} {ws : List ℕ} {a : Answer} {ws′ : List ℕ} (h : Causes m word ws a ws′) where
@@ -88,9 +84,10 @@ causes-law m word ws a ws′ h z =
     record {
       count = length rows;
       number = n ∙ five rows;
+      room = rw n (l .fits);
       most = rw n (most word (geometryIn m));
       rows = subst (λ (rs : List Row). RowsExact word (geometryIn m) rs) (sym (ap (rowsIn (length rows)) w ∙ rows-back rows (drop (length (wordsOf rows)) ws)))
-          (rows-law word (geometryIn m) (words-long m 176 64) (l .done) (h .whole z));
+          (rows-law word (geometryIn m) (length-wordsAt m 176 64) (l .done) (h .whole z));
       long = ap length w ∙ same-length (wordsOf rows) ws (l .fits);
       behind = rw (n, w) (drop-append-seam (wordsOf rows) (drop (length (wordsOf rows)) ws));
     }
@@ -99,3 +96,45 @@ causes-law m word ws a ws′ h z =
 pub refused-law : RefusedLaw
 unfolding wordsAfter
 refused-law m word ws a ws′ h z = words-are h ∙ rw (ne-eqb (codeOf m word ws) 0 (λ e. z (code-is h ∙ e)))
+
+-- ---- a call with too few words: every test but the last passes
+record Short (m : List ℕ) (word : ℕ) (ws : List ℕ) : Type 0 where
+  long : eqb (length m) imageLength ≡ true
+  formed : wellFormed m ≡ true
+  done : isDone (outcomeOf word) ≡ true
+  less : leb (length (causeWords m word)) (length ws) ≡ false
+
+short-by : (s f d t : Bool) → firstOf ((s else 1) ∷ (f else 2) ∷ (d else 5) ∷ (t else 8) ∷ []) ≡ 8 → (s ≡ true) × (f ≡ true) × (d ≡ true) × (t ≡ false)
+unfolding firstOf
+short-by true true true true e = absurd (omega arith)
+short-by true true true false e = (refl, refl, refl, refl)
+short-by true true false t e = absurd (omega arith)
+short-by true false d t e = absurd (omega arith)
+short-by false f d t e = absurd (omega arith)
+
+short : (m : List ℕ) (word : ℕ) (ws : List ℕ) → codeOf m word ws ≡ 8 → Short m word ws
+unfolding codeOf
+short m word ws e =
+    let p = short-by (eqb (length m) imageLength) (wellFormed m) (isDone (outcomeOf word)) (leb (length (causeWords m word)) (length ws)) e in
+    record { long = p .0; formed = p .1; done = p .2; less = p .3 }
+
+needed : (rows : List ℕ) (code : ℕ) → code ≡ 8 → numberOf code rows ≡ length rows
+unfolding numberOf
+needed rows code e = rw e
+
+enough : (m : List ℕ) (word : ℕ) (ws vs : List ℕ) → Short m word ws → length (causeWords m word) ≤ length vs → codeOf m word vs ≡ 0
+unfolding codeOf firstOf
+enough m word ws vs h l = rw (h .long, h .formed, h .done, le-leb (length (causeWords m word)) (length vs) l)
+
+pub short-law : ShortLaw
+unfolding causesOf
+short-law m word ws a ws′ h z =
+    let code = sym (code-is h) ∙ z in
+    let s = short m word ws code in
+    let n = number-is h ∙ needed (causeWords m word) (codeOf m word ws) code in
+    record {
+      less = rw n (leb-false (length (causeWords m word)) (length ws) (s .less));
+      enough = λ vs l.
+          let c = enough m word ws vs s (rw n at l) in
+          rw (c, all-number (causeWords m word) 0 refl, n);
+    }

@@ -1,7 +1,7 @@
 -- Ticket 5 of the call itself: image bytes in, words out.
 use mathlib.Core.List.{List, [], _∷_}
 use mathlib.Core.Path.{_≡_}
-use Prim.Native.Nat.{ℕ, zero, suc, _*_, _%_, _^_, _≤_}
+use Prim.Native.Nat.{ℕ, zero, suc, _*_, _%_, _^_, _<_, _≤_}
 use lib.ListN.{length, getD, drop}
 use Rattle.gte_rows.specs.Rows.{Row}
 use Rattle.answer.specs.declared.Answer.{Answer}
@@ -18,9 +18,10 @@ rowsIn (suc n) ws =
 
 -- the words after a call that answers code 0
 pub record CausesExact (m : List ℕ) (word : ℕ) (ws : List ℕ) (a : Answer) (ws′ : List ℕ) : Type 0 where
-  -- so many rows, five words each, and no more than 585 words
+  -- so many rows, five words each: they are among the lent words, and no more than 585
   pub count : ℕ
   pub number : a .number ≡ 5 * count
+  pub room : a .number ≤ length ws
   pub most : a .number ≤ 585
   -- they are the causes of the command on the image's COP2 registers
   pub rows : RowsExact word (geometryIn m) (rowsIn count ws′)
@@ -34,6 +35,14 @@ CausesLaw = (m : List ℕ) (word : ℕ) (ws : List ℕ) (a : Answer) (ws′ : Li
 -- a refused call writes nothing
 abbrev pub RefusedLaw : Type 0
 RefusedLaw = (m : List ℕ) (word : ℕ) (ws : List ℕ) (a : Answer) (ws′ : List ℕ) → Causes m word ws a ws′ → (a .code ≡ 0 → ⊥) → ws′ ≡ ws
+
+-- code 8: fewer words are lent than the number says, and wherever so many are, the same question has its rows, as many as that
+pub record TooShort (m : List ℕ) (word : ℕ) (ws : List ℕ) (a : Answer) : Type 0 where
+  pub less : length ws < a .number
+  pub enough : (vs : List ℕ) → a .number ≤ length vs → causesOf m word vs .answer ≡ record { code = 0; number = a .number }
+
+abbrev pub ShortLaw : Type 0
+ShortLaw = (m : List ℕ) (word : ℕ) (ws : List ℕ) (a : Answer) (ws′ : List ℕ) → Causes m word ws a ws′ → a .code ≡ 8 → TooShort m word ws a
 
 -- the top seven bits of the word are ignored: words with the same low 25 bits have the same answer
 abbrev pub TopBitsLaw : Type 0
