@@ -31,6 +31,7 @@ extern "C" {
 #define FLISKADEE_IMAGE_WORDS 108
 #define FLISKADEE_IMAGE_BYTES 432
 #define FLISKADEE_MOST_RAM 2097152 /* bytes */
+#define FLISKADEE_PAD_BYTES 1024   /* the scratch pad */
 
 /* The words of an image; 0..31 are the general registers. */
 enum fliskadee_word {
@@ -96,8 +97,9 @@ static inline void fliskadee_fresh_image(uint8_t *image)
 }
 
 /* ---- The interface's number: it rises with each change of a call's arguments. fliskadee_interface answers the number of the
- * library that was linked; a host that compares the two at its start knows that header and library belong together. */
-#define FLISKADEE_INTERFACE 1
+ * library that was linked; a host that compares the two at its start knows that header and library belong together. 2: the scratch
+ * pad is lent to fliskadee_run, fliskadee_find_flag and fliskadee_window. */
+#define FLISKADEE_INTERFACE 2
 uint32_t fliskadee_interface(void);
 
 /* ---- The answer of fliskadee_run and fliskadee_find_flag: code * 1,048,576 + steps completed */
@@ -105,34 +107,62 @@ uint32_t fliskadee_interface(void);
 #define FLISKADEE_STEPS(answer) ((uint32_t)((answer) & 0xFFFFF))
 
 enum fliskadee_code {
-    FLISKADEE_DONE = 0,                 /* all steps done: image and RAM are as after them */
+    FLISKADEE_DONE = 0,                 /* all steps done: image, RAM and pad are as after them */
     FLISKADEE_REFUSED_IMAGE_LENGTH = 1, /* the image is not 432 bytes; nothing changed */
     FLISKADEE_REFUSED_IMAGE_FORM = 2,   /* the image is not well formed; nothing changed */
     FLISKADEE_REFUSED_RAM_LENGTH = 3,   /* the RAM's length is no multiple of 4 in 4..2,097,152; nothing changed */
     FLISKADEE_REFUSED_COUNT = 4,        /* the count is above 1,000,000; nothing changed */
     FLISKADEE_UNLISTED = 5,             /* steps remain, and the next instruction is a usable COP2 command that is not one of
-                                           the 22: image and RAM are as just before it. Of fliskadee_causes: the command word
-                                           is not one of the 22; nothing changed */
+                                           the 22: image, RAM and pad are as just before it. Of fliskadee_causes: the command
+                                           word is not one of the 22; nothing changed */
+    FLISKADEE_REFUSED_PAD_LENGTH = 6,   /* the pad is not 1,024 bytes; nothing changed */
     FLISKADEE_REFUSED_SPACE = 8,        /* fliskadee_causes only: too few words are lent; nothing changed */
     FLISKADEE_FLAG_UP = 16              /* fliskadee_find_flag only: a bit of the mask came up in the last step completed */
 };
 
 #define FLISKADEE_MOST_STEPS 1000000
 
-/* Carries out at most count steps of the machine that image and RAM describe, and leaves both as they are afterwards.
- * Codes 1 to 4 are tested in this order. An exception is a completed step. Where none of them applies, count 0 answers 0 and changes
- * nothing.
+/* Carries out at most count steps of the machine that image, RAM and scratch pad describe, and leaves all three as they are
+ * afterwards. Codes 1, 2, 3, 6 and 4 are tested in this order. An exception is a completed step. Where none of them applies, count 0
+ * answers 0 and changes nothing.
  *
- * An accepted image (one that codes 1 and 2 do not refuse) is accepted again as the call has left it, and RAM keeps its length.
- * Where a call with count a is not refused and a + b is at most 1,000,000, a call with count b on what it left leaves what one call
- * with count a + b would have left; the steps of the two add up, and the code of the whole is 5 where the first one's is, else the
- * second one's. */
-uint64_t fliskadee_run(uint8_t *image, size_t image_length, uint8_t *ram, size_t ram_length, uint64_t count);
+ * RAM stands from physical address 0 on, through the segments 000, 100 and 101 (the top three bits of an address). The scratch pad
+ * stands at physical 1F800000h to 1F8003FFh: loads and stores reach it through 000 and 100; through 101 it is a bus error, and so
+ * is every fetch from it.
+ *
+ * An accepted image (one that codes 1 and 2 do not refuse) is accepted again as the call has left it, and RAM and pad keep their
+ * lengths. Where a call with count a is not refused and a + b is at most 1,000,000, a call with count b on what it left leaves what
+ * one call with count a + b would have left; the steps of the two add up, and the code of the whole is 5 where the first one's is,
+ * else the second one's. */
+uint64_t fliskadee_run(uint8_t *image, size_t image_length, uint8_t *ram, size_t ram_length, uint8_t *pad, size_t pad_length,
+                       uint64_t count);
 
 /* As fliskadee_run, but ends after the first step that leaves a bit of mask set in FLAG (COP2 register 63) where none of the
  * mask's bits was set before that step: the code is then 16, and the step is counted. To have the machine just before that
  * step, run one step fewer from the same start. An accepted image is accepted again as the call has left it. */
-uint64_t fliskadee_find_flag(uint8_t *image, size_t image_length, uint8_t *ram, size_t ram_length, uint64_t count, uint32_t mask);
+uint64_t fliskadee_find_flag(uint8_t *image, size_t image_length, uint8_t *ram, size_t ram_length, uint8_t *pad,
+                             size_t pad_length, uint64_t count, uint32_t mask);
+
+/* What a machine is lent, in one place: the same two calls over it. */
+struct fliskadee_lent {
+    uint8_t *image;
+    size_t image_length;
+    uint8_t *ram;
+    size_t ram_length;
+    uint8_t *pad;
+    size_t pad_length;
+};
+
+static inline uint64_t fliskadee_run_lent(const struct fliskadee_lent *lent, uint64_t count)
+{
+    return fliskadee_run(lent->image, lent->image_length, lent->ram, lent->ram_length, lent->pad, lent->pad_length, count);
+}
+
+static inline uint64_t fliskadee_find_flag_lent(const struct fliskadee_lent *lent, uint64_t count, uint32_t mask)
+{
+    return fliskadee_find_flag(lent->image, lent->image_length, lent->ram, lent->ram_length, lent->pad, lent->pad_length, count,
+                               mask);
+}
 
 /* ---- The answer of fliskadee_causes: a code of the list above, and a number beside it */
 struct fliskadee_answer {
@@ -170,19 +200,28 @@ static inline int64_t fliskadee_cause_value(const uint32_t *row)
     return (int64_t)((uint64_t)row[4] << 32 | row[3]);
 }
 
-/* The RAM window: which part of the lent RAM a virtual address and a length name. The answer is the place of the part's first
- * byte in ram times 2^32, plus the part's length. The length is 0 exactly when the length asked for is 0, the RAM's length is
- * one that fliskadee_run refuses, or some byte of the range is not in RAM (through the segments 000, 100 or 101); else it is the
- * length asked for. The place of an empty part is 0, but for a length of 0 at an address in RAM, where it is that place. RAM is not
- * read. */
-uint64_t fliskadee_window(const uint8_t *ram, size_t ram_length, uint32_t address, uint64_t length);
+/* ---- The window: which part of the lent RAM, or of the lent pad, a virtual address and a length name
+ *
+ * The answer is 2^63 where the part is in the pad, plus the place of its first byte in that buffer times 2^32, plus its length. The
+ * length is the one asked for, or 0. It is 0 exactly when the length asked for is 0, the length of RAM or of the pad is one that
+ * fliskadee_run refuses, or the bytes of the range are neither all in RAM (through the segments 000, 100 or 101) nor all in the pad
+ * (through 000 or 100). The place of an empty part is 0 in RAM, but for a length of 0 at an address in RAM or in the pad, where
+ * it is that place. Neither buffer is read. */
+#define FLISKADEE_WINDOW_IN_PAD(part) ((int)((part) >> 63))
+#define FLISKADEE_WINDOW_PLACE(part) ((uint32_t)((part) >> 32 & 0x7FFFFFFF))
+#define FLISKADEE_WINDOW_LENGTH(part) ((uint32_t)(part))
+uint64_t fliskadee_window(const uint8_t *ram, size_t ram_length, const uint8_t *pad, size_t pad_length, uint32_t address,
+                          uint64_t length);
 
-/* The same as a pointer into ram itself, with no copy: NULL where the part is empty. */
-static inline uint8_t *fliskadee_window_bytes(uint8_t *ram, size_t ram_length, uint32_t address, uint64_t length)
+/* The same as a pointer into RAM or the pad itself, with no copy: NULL where the part is empty. */
+static inline uint8_t *fliskadee_window_bytes(uint8_t *ram, size_t ram_length, uint8_t *pad, size_t pad_length, uint32_t address,
+                                              uint64_t length)
 {
-    uint64_t part = fliskadee_window(ram, ram_length, address, length);
+    uint64_t part = fliskadee_window(ram, ram_length, pad, pad_length, address, length);
 
-    return (uint32_t)part != 0 ? ram + (part >> 32) : NULL;
+    if (FLISKADEE_WINDOW_LENGTH(part) == 0)
+        return NULL;
+    return (FLISKADEE_WINDOW_IN_PAD(part) ? pad : ram) + FLISKADEE_WINDOW_PLACE(part);
 }
 
 #ifdef __cplusplus

@@ -11,15 +11,17 @@ static _Noreturn void end(void)
     exit(2);
 }
 
-uint64_t fliskadee_run(uint8_t *image, size_t image_length, uint8_t *ram, size_t ram_length, uint64_t count)
+uint64_t fliskadee_run(uint8_t *image, size_t image_length, uint8_t *ram, size_t ram_length, uint8_t *pad, size_t pad_length,
+                       uint64_t count)
 {
-    (void)image, (void)image_length, (void)ram, (void)ram_length, (void)count;
+    (void)image, (void)image_length, (void)ram, (void)ram_length, (void)pad, (void)pad_length, (void)count;
     end();
 }
 
-uint64_t fliskadee_find_flag(uint8_t *image, size_t image_length, uint8_t *ram, size_t ram_length, uint64_t count, uint32_t mask)
+uint64_t fliskadee_find_flag(uint8_t *image, size_t image_length, uint8_t *ram, size_t ram_length, uint8_t *pad,
+                             size_t pad_length, uint64_t count, uint32_t mask)
 {
-    (void)image, (void)image_length, (void)ram, (void)ram_length, (void)count, (void)mask;
+    (void)image, (void)image_length, (void)ram, (void)ram_length, (void)pad, (void)pad_length, (void)count, (void)mask;
     end();
 }
 
@@ -30,9 +32,10 @@ struct fliskadee_answer fliskadee_causes(const uint8_t *image, size_t image_leng
     end();
 }
 
-uint64_t fliskadee_window(const uint8_t *ram, size_t ram_length, uint32_t address, uint64_t length)
+uint64_t fliskadee_window(const uint8_t *ram, size_t ram_length, const uint8_t *pad, size_t pad_length, uint32_t address,
+                          uint64_t length)
 {
-    (void)ram, (void)ram_length, (void)address, (void)length;
+    (void)ram, (void)ram_length, (void)pad, (void)pad_length, (void)address, (void)length;
     end();
 }
 

@@ -21,13 +21,14 @@
 #define CODE 0x400
 #define DATA 0x8000
 
-typedef uint64_t run_function(uint8_t *, size_t, uint8_t *, size_t, uint64_t);
+typedef uint64_t run_function(uint8_t *, size_t, uint8_t *, size_t, uint8_t *, size_t, uint64_t);
 
 /* One thing to time: a machine, and how it is run. */
 struct workload {
     const char *name;
     uint8_t image[MODEL_IMAGE_BYTES];
     uint8_t ram[RAM_BYTES];
+    uint8_t pad[MODEL_PAD_BYTES];
     uint64_t count; /* steps of one call */
     unsigned calls; /* calls in one round */
     double units; /* what is reported, for each step: 1, or commands in a step */
@@ -53,6 +54,7 @@ static void fresh_with(struct workload *w, unsigned number, uint32_t value)
     unsigned i;
 
     memset(w->ram, 0, sizeof w->ram);
+    memset(w->pad, 0, sizeof w->pad);
     m.pc = 0x80000000 + CODE;
     m.next_pc = m.pc + 4;
     m.sr = 0x40000000;
@@ -101,6 +103,14 @@ static void integer_loop(struct workload *w)
     fresh(w);
     put_code(w, code, sizeof code / sizeof *code);
     put_word(w->ram + DATA, 0x12345678);
+}
+
+/* The same with its data in the scratch pad. */
+static void pad_loop(struct workload *w)
+{
+    integer_loop(w);
+    fliskadee_set_word(w->image, S0, 0x1F800000);
+    put_word(w->pad, 0x12345678);
 }
 
 /* Sixteen instructions around one RTPT: vertices in, screen points and FLAG out. */
@@ -175,6 +185,7 @@ static void rtps_loop(struct workload *w)
 struct sides {
     uint8_t image[MODEL_IMAGE_BYTES];
     uint8_t ram[RAM_BYTES];
+    uint8_t pad[MODEL_PAD_BYTES];
 };
 
 static double now(void)
@@ -193,9 +204,10 @@ static double time_round(run_function *run, const struct workload *w, struct sid
 
     memcpy(s->image, w->image, sizeof s->image);
     memcpy(s->ram, w->ram, sizeof s->ram);
+    memcpy(s->pad, w->pad, sizeof s->pad);
     start = now();
     for (i = 0; i < w->calls; i++)
-        if (run(s->image, sizeof s->image, s->ram, sizeof s->ram, w->count) != w->count) {
+        if (run(s->image, sizeof s->image, s->ram, sizeof s->ram, s->pad, sizeof s->pad, w->count) != w->count) {
             fprintf(stderr, "bench: %s: a call did not complete\n", w->name);
             exit(1);
         }
@@ -322,6 +334,7 @@ int main(int argc, char **argv)
         {"calls of one step", integer_loop, 1, 20000, 1, " calls"},
         {"integer loop, calls of 1,000", integer_loop, 1000, 1000, 1, " steps"},
         {"integer loop, calls of 1,000,000", integer_loop, 1000000, 1, 1, " steps"},
+        {"integer loop, data in the pad", pad_loop, 1000000, 1, 1, " steps"},
     };
     unsigned rounds = 15, i;
     bool same = true;

@@ -97,11 +97,64 @@ enum { LANDED, LANDED_BY_EXCEPTION, DROPPED_BY_WRITE, DROPPED_BY_LOAD, MERGED, L
 static const char *const event_names[LOAD_EVENTS] = {"landed", "landed by an exception", "dropped by a write",
                                                      "dropped by a load", "merged by LWL or LWR"};
 
-/* A window that is empty counts only where it is so for one reason. */
-enum { NOT_EMPTY, LENGTH_0_IN_RAM, LENGTH_0_ELSEWHERE, BAD_RAM_LENGTH, STARTS_OUTSIDE, ENDS_OUTSIDE, WINDOW_KINDS };
+/* The loads and stores, which are the first names and the last two. */
+#define ACCESSES 14
 
-static const char *const window_names[WINDOW_KINDS] = {"not empty", "length 0 in RAM", "length 0 elsewhere",
-                                                       "bad RAM length", "starts outside RAM", "ends outside RAM"};
+static int access_index(int instruction)
+{
+    return instruction < 12 ? instruction : instruction >= INSTRUCTIONS - 2 ? instruction - INSTRUCTIONS + ACCESSES : -1;
+}
+
+static const char *access_name(int access)
+{
+    return names[access < 12 ? access : access + INSTRUCTIONS - ACCESSES];
+}
+
+#define PAD 0x1F800000u
+#define PAD_END (PAD + MODEL_PAD_BYTES)
+
+/* Where in the pad a load or store went, by the segment that reached it. */
+enum { FIRST_WORD, LAST_WORD, BETWEEN, PAD_PLACES };
+
+static const char *const pad_place_names[2 * PAD_PLACES] = {
+    "first word through 000", "last word through 000", "between through 000",
+    "first word through 100", "last word through 100", "between through 100",
+};
+
+/* Exceptions of a load or store at the pad's addresses and beside them; the last one of words and halves alone. */
+enum { BUS_BELOW_PAD, BUS_ABOVE_PAD, BUS_THROUGH_101, BUS_OTHER_SEGMENT, USER_MODE, MISALIGNED, PAD_EXCEPTIONS };
+
+static const char *const pad_exception_names[PAD_EXCEPTIONS] = {
+    "DBE just below the pad", "DBE just above the pad", "DBE through 101", "DBE through another segment",
+    "address error in user mode", "address error, misaligned",
+};
+
+/* Fetches there: PC in the pad by segment, and beside it. */
+enum { FETCH_000, FETCH_100, FETCH_101, FETCH_BELOW, FETCH_ABOVE, FETCH_USER_MODE, FETCH_MISALIGNED, PAD_FETCHES };
+
+static const char *const pad_fetch_names[PAD_FETCHES] = {
+    "IBE through 000", "IBE through 100", "IBE through 101", "IBE just below the pad", "IBE just above the pad",
+    "AdEL in user mode", "AdEL, misaligned",
+};
+
+/* The reasons for which a run is refused, in the order of their tests. */
+#define REASONS 5
+
+static const unsigned reason_codes[REASONS] = {MODEL_IMAGE_LENGTH, MODEL_IMAGE_FORM, MODEL_RAM_LENGTH, MODEL_PAD_LENGTH,
+                                               MODEL_COUNT};
+
+/* A window that is empty counts only where it is so for one reason. */
+enum {
+    IN_RAM, LENGTH_0_IN_RAM, LENGTH_0_ELSEWHERE, BAD_RAM_LENGTH, STARTS_OUTSIDE, ENDS_OUTSIDE,
+    IN_PAD, WHOLE_PAD, LENGTH_0_IN_PAD, PAD_BUT_BAD_RAM_LENGTH, BAD_PAD_LENGTH, PAD_BUT_BAD_PAD_LENGTH, INTO_PAD, OUT_OF_PAD,
+    PAD_THROUGH_101, WINDOW_KINDS
+};
+
+static const char *const window_names[WINDOW_KINDS] = {
+    "in RAM", "length 0 in RAM", "length 0 elsewhere", "RAM, bad RAM length", "starts outside both", "ends outside RAM",
+    "in the pad", "the whole pad", "length 0 in the pad", "pad, bad RAM length", "RAM, bad pad length", "pad, bad pad length",
+    "starts below the pad", "ends outside the pad", "pad through 101",
+};
 
 /* The words lent to a question, beside those that its rows need. */
 enum { SHORT_BY_1, SHORT_BY_5 = SHORT_BY_1 + 4, NO_WORD, JUST_ENOUGH, MORE_WORDS, NO_ROW_NO_WORD, NO_ROW_SOME_WORDS, SPACE_KINDS };
@@ -139,9 +192,11 @@ static uint64_t mvmva_forms[256]; /* by sf, mx, v, cv, lm */
 static uint64_t flag_set[COMMANDS][32], flag_clear[COMMANDS][32];
 static uint64_t exceptions[32][2]; /* by code, and in a delay slot */
 static uint64_t exceptions_user, exceptions_bev, steps_user;
-static uint64_t run_codes[MODEL_UNLISTED + 1], search_codes[MODEL_FLAG_UP + 1];
+static uint64_t run_codes[MODEL_PAD_LENGTH + 1], search_codes[MODEL_FLAG_UP + 1];
 static uint64_t load_events[LOAD_EVENTS];
 static uint64_t windows[WINDOW_KINDS];
+static uint64_t pad_accesses[ACCESSES][2 * PAD_PLACES], pad_exceptions[ACCESSES][PAD_EXCEPTIONS], pad_fetches[PAD_FETCHES];
+static uint64_t refusals[REASONS][REASONS]; /* for just these two reasons, or for one alone */
 static uint64_t quotients[QUOTIENT_KINDS], table_entries[TABLE_ENTRIES];
 static uint64_t perspectives[2 * BITS_LEFT];
 static uint64_t question_codes[MODEL_SPACE + 1], spaces[SPACE_KINDS];
@@ -243,6 +298,70 @@ static void count_load(const struct model *before, const struct model *after, en
     }
 }
 
+/* The word below the pad and the one above it. */
+static bool just_below(uint32_t physical)
+{
+    return physical >= PAD - 4 && physical < PAD;
+}
+
+static bool just_above(uint32_t physical)
+{
+    return physical >= PAD_END && physical < PAD_END + 4;
+}
+
+static bool in_pad(uint32_t physical)
+{
+    return physical >= PAD && physical < PAD_END;
+}
+
+static bool reaches_pad(uint32_t address)
+{
+    return address >> 29 == 0 || address >> 29 == 4;
+}
+
+static void count_pad_access(int access, uint32_t address, enum model_outcome outcome)
+{
+    uint32_t physical = address & 0x1FFFFFFF;
+    uint64_t *e = pad_exceptions[access];
+
+    if (outcome == MODEL_DBE && reaches_pad(address)) {
+        e[BUS_BELOW_PAD] += just_below(physical);
+        e[BUS_ABOVE_PAD] += just_above(physical);
+    }
+    if (!in_pad(physical))
+        return;
+    if (outcome == MODEL_NO_EXCEPTION) {
+        unsigned place = physical < PAD + 4 ? FIRST_WORD : physical >= PAD_END - 4 ? LAST_WORD : BETWEEN;
+
+        pad_accesses[access][(address >> 31) * PAD_PLACES + place]++;
+    } else if (outcome == MODEL_DBE) {
+        e[address >> 29 == 5 ? BUS_THROUGH_101 : BUS_OTHER_SEGMENT]++;
+    } else if ((outcome == MODEL_ADEL || outcome == MODEL_ADES) && reaches_pad(address)) {
+        /* Each counts where it is the only reason: the address is aligned, or its bit 31 is clear. */
+        e[USER_MODE] += physical % 4 == 0;
+        e[MISALIGNED] += address >> 31 == 0;
+    }
+}
+
+static void count_pad_fetch(uint32_t pc, enum model_outcome outcome)
+{
+    uint32_t physical = pc & 0x1FFFFFFF, segment = pc >> 29;
+
+    if (outcome == MODEL_IBE && reaches_pad(pc)) {
+        pad_fetches[FETCH_BELOW] += just_below(physical);
+        pad_fetches[FETCH_ABOVE] += just_above(physical);
+    }
+    if (!in_pad(physical))
+        return;
+    if (outcome == MODEL_IBE) {
+        if (segment == 0 || segment == 4 || segment == 5)
+            pad_fetches[segment == 0 ? FETCH_000 : segment == 4 ? FETCH_100 : FETCH_101]++;
+    } else if (reaches_pad(pc)) {
+        pad_fetches[FETCH_USER_MODE] += physical % 4 == 0;
+        pad_fetches[FETCH_MISALIGNED] += segment == 0;
+    }
+}
+
 static void count_step(const struct model *before, const struct model *after, enum model_outcome outcome,
                        const uint8_t *ram, size_t ram_length)
 {
@@ -259,6 +378,7 @@ static void count_step(const struct model *before, const struct model *after, en
     if (physical + 4 > ram_length || (physical & 3) != 0 || (outcome == MODEL_ADEL && after->badv == before->pc)
         || outcome == MODEL_IBE) {
         count_load(before, after, outcome, 0);
+        count_pad_fetch(before->pc, outcome);
         return;
     }
     word = get_word(ram + physical);
@@ -268,6 +388,8 @@ static void count_step(const struct model *before, const struct model *after, en
         reserved_words++;
         return;
     }
+    if (access_index(index) >= 0)
+        count_pad_access(access_index(index), before->general[word >> 21 & 31] + (uint32_t)(int16_t)word, outcome);
     if (outcome != MODEL_NO_EXCEPTION) {
         trapped[index]++;
         return;
@@ -285,19 +407,65 @@ static void count_step(const struct model *before, const struct model *after, en
     }
 }
 
+static bool bad_ram_length(size_t length)
+{
+    return length % 4 != 0 || length == 0 || length > MODEL_RAM_MAXIMUM;
+}
+
+/* Of lengths that are good, length 0 apart. */
+static unsigned window_kind(const struct window *w, bool starts_in_ram, bool starts_in_pad, bool fits)
+{
+    uint32_t place = w->address & 0x1FFFFFFF;
+
+    if (starts_in_ram)
+        return fits ? IN_RAM : ENDS_OUTSIDE;
+    if (starts_in_pad)
+        return !fits ? OUT_OF_PAD : w->length == MODEL_PAD_BYTES ? WHOLE_PAD : IN_PAD;
+    if (reaches_pad(w->address) && place < PAD && w->length > PAD - place && w->length <= PAD_END - place)
+        return INTO_PAD;
+    if (w->address >> 29 == 5 && in_pad(place) && w->length <= PAD_END - place)
+        return PAD_THROUGH_101;
+    return STARTS_OUTSIDE;
+}
+
 static void count_window(const struct window *w)
 {
     uint32_t segment = w->address >> 29, place = w->address & 0x1FFFFFFF;
-    bool bad = w->ram_length % 4 != 0 || w->ram_length == 0 || w->ram_length > MODEL_RAM_MAXIMUM;
-    bool starts = (segment == 0 || segment == 4 || segment == 5) && place < w->ram_length;
-    bool ends = starts && w->length <= w->ram_length - place;
+    bool bad_ram = bad_ram_length(w->ram_length), bad_pad = w->pad_length != MODEL_PAD_BYTES;
+    bool starts_in_ram = (segment == 0 || segment == 4 || segment == 5) && place < w->ram_length;
+    bool starts_in_pad = reaches_pad(w->address) && in_pad(place);
+    bool starts = starts_in_ram || starts_in_pad;
+    bool fits = starts && w->length <= (starts_in_ram ? w->ram_length : PAD_END) - place;
 
-    if (bad)
-        windows[BAD_RAM_LENGTH] += ends && w->length != 0;
-    else if (w->length == 0)
-        windows[starts ? LENGTH_0_IN_RAM : LENGTH_0_ELSEWHERE]++;
-    else
-        windows[ends ? NOT_EMPTY : starts ? ENDS_OUTSIDE : STARTS_OUTSIDE]++;
+    if (bad_ram || bad_pad) {
+        if (fits && w->length != 0 && bad_ram != bad_pad)
+            windows[bad_ram ? (starts_in_ram ? BAD_RAM_LENGTH : PAD_BUT_BAD_RAM_LENGTH)
+                            : (starts_in_ram ? BAD_PAD_LENGTH : PAD_BUT_BAD_PAD_LENGTH)]++;
+    } else if (w->length == 0) {
+        windows[starts_in_ram ? LENGTH_0_IN_RAM : starts_in_pad ? LENGTH_0_IN_PAD : LENGTH_0_ELSEWHERE]++;
+    } else {
+        windows[window_kind(w, starts_in_ram, starts_in_pad, fits)]++;
+    }
+}
+
+/* An image of the wrong length is not asked for its form. */
+static void count_refusal(const struct test_case *c)
+{
+    struct model machine;
+    bool short_or_long = c->image_length != MODEL_IMAGE_BYTES;
+    const bool applies[REASONS] = {short_or_long, !short_or_long && !model_load(&machine, c->image),
+                                   bad_ram_length(c->ram_length), c->pad_length != MODEL_PAD_BYTES,
+                                   c->count > MODEL_COUNT_MAXIMUM};
+    unsigned i, number = 0, first = REASONS, last = 0;
+
+    for (i = 0; i < REASONS; i++)
+        if (applies[i]) {
+            number++;
+            first = first == REASONS ? i : first;
+            last = i;
+        }
+    if (number == 1 || number == 2)
+        refusals[first][last]++;
 }
 
 /* Whether line k of the table is one of the command's. */
@@ -364,6 +532,7 @@ static void count_question(const struct test_case *c, const struct question *q)
 
 static void walk(struct test_case *c, uint64_t steps)
 {
+    const struct model_memory memory = {c->ram, c->ram_length, c->pad};
     struct model machine, before;
     uint8_t code[4] = {0};
     uint64_t i;
@@ -378,7 +547,7 @@ static void walk(struct test_case *c, uint64_t steps)
         if (inside)
             memcpy(code, c->ram + physical, 4);
         before = machine;
-        outcome = model_step(&machine, c->ram, c->ram_length);
+        outcome = model_step(&machine, &memory);
         if (inside && memcmp(code, c->ram + physical, 4) != 0) {
             uint8_t now[4];
 
@@ -403,6 +572,7 @@ void coverage_add(struct test_case *c, const struct case_answers *answers)
         count_window(&c->windows[i]);
     for (i = 0; i < CASE_QUESTIONS; i++)
         count_question(c, &c->questions[i]);
+    count_refusal(c);
     if (code == MODEL_DONE || code == MODEL_UNLISTED)
         walk(c, answers->run % MODEL_CODE_UNIT);
 }
@@ -413,7 +583,7 @@ void coverage_add(struct test_case *c, const struct case_answers *answers)
 struct tally {
     const char *kind;
     unsigned reached, all;
-    char missing[40];
+    char missing[48];
 };
 
 static void tally(struct tally *t, bool reached, const char *format, ...)
@@ -431,8 +601,8 @@ static void tally(struct tally *t, bool reached, const char *format, ...)
 
 enum {
     ALL_INSTRUCTIONS, ALL_COMMANDS, ALL_FORMS, ALL_MVMVA, BITS_SET, BITS_CLEAR, BITS_IMPOSSIBLE, OUTSIDE_SLOTS,
-    IN_SLOTS, ALL_EVENTS, RUN_CODES, SEARCH_CODES, ALL_WINDOWS, ALL_QUOTIENTS,
-    ALL_ENTRIES, ALL_PERSPECTIVES, QUESTION_CODES, ALL_SPACES, QUESTION_FORMS, ALL_CAUSES, CAUSES_IMPOSSIBLE, TALLIES
+    IN_SLOTS, ALL_EVENTS, RUN_CODES, SEARCH_CODES, ALL_REFUSALS, ALL_WINDOWS, IN_THE_PAD, AROUND_THE_PAD, ALL_FETCHES,
+    ALL_QUOTIENTS, ALL_ENTRIES, ALL_PERSPECTIVES, QUESTION_CODES, ALL_SPACES, QUESTION_FORMS, ALL_CAUSES, CAUSES_IMPOSSIBLE, TALLIES
 };
 
 static void tally_instructions(struct tally *t)
@@ -526,6 +696,44 @@ static void tally_questions(struct tally *t)
     tally_causes(&t[ALL_CAUSES]);
 }
 
+/* Of an image of the wrong length, whether its form is wrong as well is not asked. */
+static void tally_refusals(struct tally *t)
+{
+    unsigned i, k;
+
+    for (i = 0; i < REASONS; i++)
+        for (k = i; k < REASONS; k++)
+            if (i != 0 || k != 1)
+                tally(t, refusals[i][k] != 0, "%u with %u", reason_codes[i], reason_codes[k]);
+}
+
+static bool can_be_misaligned(int access)
+{
+    static const char *const any[] = {"lb", "lbu", "lwl", "lwr", "sb", "swl", "swr"};
+    unsigned i;
+
+    for (i = 0; i < sizeof any / sizeof *any; i++)
+        if (strcmp(any[i], access_name(access)) == 0)
+            return false;
+    return true;
+}
+
+static void tally_pad(struct tally *t)
+{
+    int access;
+    unsigned i;
+
+    for (access = 0; access < ACCESSES; access++) {
+        for (i = 0; i < 2 * PAD_PLACES; i++)
+            tally(&t[IN_THE_PAD], pad_accesses[access][i] != 0, "%s, %s", access_name(access), pad_place_names[i]);
+        for (i = 0; i < PAD_EXCEPTIONS; i++)
+            if (i != MISALIGNED || can_be_misaligned(access))
+                tally(&t[AROUND_THE_PAD], pad_exceptions[access][i] != 0, "%s, %s", access_name(access), pad_exception_names[i]);
+    }
+    for (i = 0; i < PAD_FETCHES; i++)
+        tally(&t[ALL_FETCHES], pad_fetches[i] != 0, "%s", pad_fetch_names[i]);
+}
+
 static void tally_all(struct tally t[TALLIES])
 {
     static const char *const kinds[TALLIES] = {
@@ -541,7 +749,11 @@ static void tally_all(struct tally t[TALLIES])
         [ALL_EVENTS] = "ends of waiting loads",
         [RUN_CODES] = "codes of the run",
         [SEARCH_CODES] = "codes of the search",
+        [ALL_REFUSALS] = "reasons to refuse a run, alone and two together",
         [ALL_WINDOWS] = "kinds of windows",
+        [IN_THE_PAD] = "loads and stores in the pad",
+        [AROUND_THE_PAD] = "exceptions of loads and stores in and around the pad",
+        [ALL_FETCHES] = "fetches in and around the pad",
         [ALL_QUOTIENTS] = "kinds of quotients",
         [ALL_ENTRIES] = "entries of the division's table",
         [ALL_PERSPECTIVES] = "kinds of perspective commands",
@@ -564,11 +776,13 @@ static void tally_all(struct tally t[TALLIES])
     }
     for (i = 0; i < LOAD_EVENTS; i++)
         tally(&t[ALL_EVENTS], load_events[i] != 0, "%s", event_names[i]);
-    for (i = 0; i <= MODEL_UNLISTED; i++) {
+    for (i = 0; i <= MODEL_PAD_LENGTH; i++) {
         tally(&t[RUN_CODES], run_codes[i] != 0, "%u", i);
         tally(&t[SEARCH_CODES], search_codes[i] != 0, "%u", i);
     }
     tally(&t[SEARCH_CODES], search_codes[MODEL_FLAG_UP] != 0, "%u", MODEL_FLAG_UP);
+    tally_refusals(&t[ALL_REFUSALS]);
+    tally_pad(t);
     for (i = 0; i < WINDOW_KINDS; i++)
         tally(&t[ALL_WINDOWS], windows[i] != 0, "%s", window_names[i]);
     for (i = 0; i < QUOTIENT_KINDS; i++)
@@ -659,7 +873,7 @@ static void print_codes(const char *call, const uint64_t *codes, unsigned last)
 
     printf("answers of the %s by code:", call);
     for (i = 0; i <= last; i++)
-        if (i <= MODEL_UNLISTED || i == last)
+        if (i <= MODEL_PAD_LENGTH || i == last)
             printf(" %u: %llu", i, (unsigned long long)codes[i]);
     printf("\n");
 }
@@ -671,6 +885,39 @@ static void print_names(const char *title, const char *const *kinds, const uint6
     printf("%s:\n", title);
     for (i = 0; i < number; i++)
         printf("  %-24s %9llu\n", kinds[i], (unsigned long long)counts[i]);
+}
+
+static void print_pad(void)
+{
+    int access;
+    unsigned i;
+
+    printf("loads and stores in the pad:\n  ");
+    for (i = 0; i < 2 * PAD_PLACES; i++)
+        printf("%s%s", pad_place_names[i], i + 1 < 2 * PAD_PLACES ? ", " : "\n  ");
+    for (i = 0; i < PAD_EXCEPTIONS; i++)
+        printf("%s%s", pad_exception_names[i], i + 1 < PAD_EXCEPTIONS ? ", " : "\n");
+    for (access = 0; access < ACCESSES; access++) {
+        printf("  %-5s", access_name(access));
+        for (i = 0; i < 2 * PAD_PLACES; i++)
+            printf(" %7llu", (unsigned long long)pad_accesses[access][i]);
+        printf("  |");
+        for (i = 0; i < PAD_EXCEPTIONS; i++)
+            printf(" %6llu", (unsigned long long)pad_exceptions[access][i]);
+        printf("\n");
+    }
+    print_names("fetches in and around the pad", pad_fetch_names, pad_fetches, PAD_FETCHES);
+}
+
+static void print_refusals(void)
+{
+    unsigned i, k;
+
+    printf("reasons to refuse a run (n+n: alone):");
+    for (i = 0; i < REASONS; i++)
+        for (k = i; k < REASONS; k++)
+            printf(" %u+%u: %llu", reason_codes[i], reason_codes[k], (unsigned long long)refusals[i][k]);
+    printf("\n");
 }
 
 void coverage_print(void)
@@ -687,8 +934,10 @@ void coverage_print(void)
     printf("  from user mode %llu, with BEV %llu; steps in user mode %llu\n", (unsigned long long)exceptions_user,
            (unsigned long long)exceptions_bev, (unsigned long long)steps_user);
     print_names("waiting loads", event_names, load_events, LOAD_EVENTS);
-    print_codes("run", run_codes, MODEL_UNLISTED);
+    print_codes("run", run_codes, MODEL_PAD_LENGTH);
     print_codes("search", search_codes, MODEL_FLAG_UP);
+    print_refusals();
+    print_pad();
     print_codes("causes", question_codes, MODEL_SPACE);
     print_names("words lent for causes", space_names, spaces, SPACE_KINDS);
     print_causes();

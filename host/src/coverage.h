@@ -9,7 +9,7 @@ struct case_answers {
     uint64_t run, search;
 };
 
-/* Walks the case's run; its image and RAM are changed on the way. */
+/* Walks the case's run; its image and memories are changed on the way. */
 void coverage_add(struct test_case *c, const struct case_answers *answers);
 
 /* Prints the tables and, last, what was reached of what can be. */

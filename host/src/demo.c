@@ -2,7 +2,8 @@
 
    The program in RAM loads three vertices from memory, projects them with RTPT and stores the three screen points.
    It is run twice: once with all vertices in front of the viewer, once with one of them too near. With --save FOLDER the
-   two machines are written there before they run, as files for the command-line tool. */
+   two machines are written there before they run, as files for the command-line tool. The scratch pad is lent as zeros, and the
+   program leaves it alone. */
 #define _POSIX_C_SOURCE 200809L
 
 #include <inttypes.h>
@@ -80,15 +81,19 @@ static void put_machine(uint8_t *image, uint8_t *ram, const int16_t triangle[3][
     }
 }
 
-/* Writes the machine to DIR/NAME.image and DIR/NAME.ram, for the command-line tool. */
-static bool save_machine(const char *folder, const char *name, const uint8_t *image, const uint8_t *ram)
+/* Writes the machine to FOLDER/NAME.image, FOLDER/NAME.ram and FOLDER/NAME.pad, for the command-line tool. */
+static bool save_machine(const char *folder, const char *name, const struct fliskadee_lent *lent)
 {
-    const struct bytes bytes[2] = {{(uint8_t *)image, FLISKADEE_IMAGE_BYTES}, {(uint8_t *)ram, RAM_LENGTH}};
-    char paths[2][4096];
-    snprintf(paths[0], sizeof paths[0], "%s/%s.image", folder, name);
-    snprintf(paths[1], sizeof paths[1], "%s/%s.ram", folder, name);
-    const struct output outputs[2] = {{paths[0], &bytes[0]}, {paths[1], &bytes[1]}};
-    return write_outputs(outputs, 2);
+    static const char *const endings[3] = {"image", "ram", "pad"};
+    const struct bytes bytes[3] = {
+        {lent->image, lent->image_length}, {lent->ram, lent->ram_length}, {lent->pad, lent->pad_length}};
+    char paths[3][4096];
+    struct output outputs[3];
+    for (size_t i = 0; i < 3; i++) {
+        snprintf(paths[i], sizeof paths[i], "%s/%s.%s", folder, name, endings[i]);
+        outputs[i] = (struct output){paths[i], &bytes[i]};
+    }
+    return write_outputs(outputs, 3);
 }
 
 static void print_registers(const uint8_t *image)
@@ -105,18 +110,20 @@ static bool show_case(const char *title, const int16_t triangle[3][3], const cha
 {
     static uint8_t image[FLISKADEE_IMAGE_BYTES];
     static uint8_t ram[RAM_LENGTH];
+    static uint8_t pad[FLISKADEE_PAD_BYTES];
+    const struct fliskadee_lent lent = {image, sizeof image, ram, sizeof ram, pad, sizeof pad};
     printf("%s\n", title);
     put_machine(image, ram, triangle);
-    if (folder != NULL && !save_machine(folder, name, image, ram))
+    if (folder != NULL && !save_machine(folder, name, &lent))
         return false;
-    uint64_t answer = fliskadee_run(image, sizeof image, ram, sizeof ram, PROGRAM_WORDS);
+    uint64_t answer = fliskadee_run_lent(&lent, PROGRAM_WORDS);
     printf("The run answers code %u after %u steps.\n", FLISKADEE_CODE(answer), (unsigned)FLISKADEE_STEPS(answer));
     if (FLISKADEE_CODE(answer) != FLISKADEE_DONE)
         return false;
     print_registers(image);
 
     /* The points that the program stored, in RAM itself. */
-    const uint8_t *points = fliskadee_window_bytes(ram, sizeof ram, KERNEL | POINTS, 12);
+    const uint8_t *points = fliskadee_window_bytes(ram, sizeof ram, pad, sizeof pad, KERNEL | POINTS, 12);
     if (points == NULL)
         return false;
     for (size_t i = 0; i < 3; i++) {

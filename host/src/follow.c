@@ -13,7 +13,7 @@
 #include "show.h"
 #include "why.h"
 
-enum { LISTED_WORDS = 32 }; /* differences of RAM that are printed one by one */
+enum { LISTED_WORDS = 32 }; /* differences of RAM, and of the pad, that are printed one by one */
 
 static uint32_t flag_of(const uint8_t *image)
 {
@@ -167,29 +167,65 @@ uint64_t compare_images(const uint8_t *first, const uint8_t *second)
     return differing;
 }
 
-static void print_ram_word(const struct bytes *first, const struct bytes *second, size_t word)
+/* How a memory is told: before an address and in a sentence; and where it begins. */
+static const struct {
+    const char *mark;
+    const char *name;
+    uint32_t base;
+} memory_words[MEMORIES] = {{"RAM", "RAM", 0}, {"PAD", "the pad", PAD_BASE}};
+
+static uint32_t word_at(const struct machine *machine, struct place place)
 {
-    printf("RAM %08zX  %08X  %08X\n", 4 * word, (unsigned)fliskadee_get_word(first->data, word),
-           (unsigned)fliskadee_get_word(second->data, word));
+    return fliskadee_get_word(memory_of(machine, place.memory)->data + place.offset, 0);
 }
 
-uint64_t compare_ram(const struct bytes *first, const struct bytes *second)
+static bool places_equal(const struct machine machines[2], struct place place)
 {
-    size_t words = (size_t)least(first->length, second->length) / 4;
+    return word_at(&machines[0], place) == word_at(&machines[1], place);
+}
+
+static void print_place(const struct machine machines[2], struct place place)
+{
+    printf("%s %08X  %08X  %08X\n", memory_words[place.memory].mark,
+           (unsigned)(memory_words[place.memory].base + place.offset), (unsigned)word_at(&machines[0], place),
+           (unsigned)word_at(&machines[1], place));
+}
+
+/* The bytes behind the last whole word, which a RAM that the library refuses may have. */
+static uint64_t compare_rest(const struct machine machines[2], enum memory memory, size_t length)
+{
+    size_t rest = length % 4;
+    if (memcmp(memory_of(&machines[0], memory)->data + length - rest, memory_of(&machines[1], memory)->data + length - rest,
+               rest) == 0)
+        return 0;
+    printf("The last bytes of %s, which are no whole word, differ.\n", memory_words[memory].name);
+    return 1;
+}
+
+/* What both have of a memory. */
+static uint64_t compare_memory(const struct machine machines[2], enum memory memory)
+{
+    const char *name = memory_words[memory].name;
+    size_t length = (size_t)least(memory_of(&machines[0], memory)->length, memory_of(&machines[1], memory)->length);
     uint64_t differing = 0;
-    for (size_t word = 0; word < words; word++) {
-        if (memcmp(first->data + 4 * word, second->data + 4 * word, 4) == 0)
-            continue;
-        if (differing++ < LISTED_WORDS)
-            print_ram_word(first, second, word);
-    }
+    for (struct place place = {memory, 0}; place.offset + 4 <= length; place.offset += 4)
+        if (!places_equal(machines, place) && differing++ < LISTED_WORDS)
+            print_place(machines, place);
     if (differing > LISTED_WORDS)
-        printf("and %" PRIu64 " more words of RAM\n", differing - LISTED_WORDS);
+        printf("and %" PRIu64 " more words of %s\n", differing - LISTED_WORDS, name);
     if (differing != 0)
-        printf("%" PRIu64 " word%s of RAM differ%s.\n", differing, differing == 1 ? "" : "s", differing == 1 ? "s" : "");
-    if (first->length != second->length)
-        printf("The RAMs have %zu and %zu bytes; only what both have was compared.\n", first->length, second->length);
-    return differing + (first->length != second->length);
+        printf("%" PRIu64 " word%s of %s differ%s.\n", differing, differing == 1 ? "" : "s", name, differing == 1 ? "s" : "");
+    return differing + compare_rest(machines, memory, length);
+}
+
+uint64_t compare_memories(const struct machine machines[2])
+{
+    size_t first = machines[0].ram.length;
+    size_t second = machines[1].ram.length;
+    uint64_t differing = compare_memory(machines, MEMORY_RAM);
+    if (first != second)
+        printf("The RAMs have %zu and %zu bytes; only what both have was compared.\n", first, second);
+    return differing + (first != second) + compare_memory(machines, MEMORY_PAD);
 }
 
 /* ---- part ---- */
@@ -201,7 +237,7 @@ struct pair {
     bool fetched[2]; /* the last step's instruction, where its fetch was no exception */
     uint32_t words[2];
     bool apart_at_start[FLISKADEE_IMAGE_WORDS];
-    uint8_t *start_ram[2]; /* the RAMs at the start, to tell what differed there */
+    struct machine start[2]; /* as they stood at the start, to tell what differed there in memory */
     struct part_options options;
 };
 
@@ -220,26 +256,27 @@ static bool registers_equal(const struct pair *pair)
     return true;
 }
 
-static bool ram_word_counts(const struct pair *pair, size_t word)
+/* All of a memory, but for what differed at the start. */
+static bool memory_equal(const struct pair *pair, enum memory memory)
 {
-    return memcmp(pair->start_ram[0] + 4 * word, pair->start_ram[1] + 4 * word, 4) == 0;
-}
-
-/* All of RAM, but for what differed at the start. */
-static bool rams_equal(const struct pair *pair)
-{
-    const struct bytes *first = &pair->now[0].ram;
-    const struct bytes *second = &pair->now[1].ram;
-    if (pair->options.flag_alone || memcmp(first->data, second->data, first->length) == 0)
+    const struct bytes *first = memory_of(&pair->now[0], memory);
+    const struct bytes *second = memory_of(&pair->now[1], memory);
+    if (memcmp(first->data, second->data, first->length) == 0)
         return true;
-    for (size_t word = 0; word < first->length / 4; word++)
-        if (memcmp(first->data + 4 * word, second->data + 4 * word, 4) != 0 && ram_word_counts(pair, word))
+    for (struct place place = {memory, 0}; place.offset < first->length; place.offset += 4)
+        if (!places_equal(pair->now, place) && places_equal(pair->start, place))
             return false;
     return true;
 }
 
-/* The word of RAM that the next step stores to, as an index; false where it stores nothing there. */
-static bool stored_word(const struct machine *machine, size_t *index)
+static bool all_equal(const struct pair *pair)
+{
+    return registers_equal(pair)
+           && (pair->options.flag_alone || (memory_equal(pair, MEMORY_RAM) && memory_equal(pair, MEMORY_PAD)));
+}
+
+/* The word of memory that the next step stores to; false where it stores nothing. */
+static bool stored_word(const struct machine *machine, struct place *place)
 {
     uint32_t word;
     if (!next_instruction(machine, &word))
@@ -248,28 +285,20 @@ static bool stored_word(const struct machine *machine, size_t *index)
     if (!(opcode == 0x28 || opcode == 0x29 || opcode == 0x2A || opcode == 0x2B || opcode == 0x2E || opcode == 0x3A))
         return false;
     uint32_t address = fliskadee_get_word(machine->image.data, word >> 21 & 31) + (uint32_t)low_half(word);
-    uint64_t window = fliskadee_window(machine->ram.data, machine->ram.length, address & ~UINT32_C(3), 4);
-    *index = (size_t)(window >> 32) / 4;
-    return (window & 0xFFFFFFFF) == 4;
+    return find_word(machine, address & ~UINT32_C(3), place);
 }
 
 struct stored {
-    bool there[2];
-    size_t word[2];
-    bool equal[2]; /* whether that word was equal on both sides before the step */
+    struct place place[2];
+    bool equal[2]; /* whether something is stored, and that word was equal on both sides before the step */
 };
-
-static bool ram_word_equal(const struct pair *pair, size_t word)
-{
-    return memcmp(pair->now[0].ram.data + 4 * word, pair->now[1].ram.data + 4 * word, 4) == 0;
-}
 
 static struct outcome step_pair(struct pair *pair, struct stored *stored)
 {
     struct outcome outcomes[2];
     for (unsigned i = 0; i < 2; i++) {
-        stored->there[i] = !pair->options.flag_alone && stored_word(&pair->now[i], &stored->word[i]);
-        stored->equal[i] = stored->there[i] && ram_word_equal(pair, stored->word[i]);
+        stored->equal[i] = !pair->options.flag_alone && stored_word(&pair->now[i], &stored->place[i])
+                           && places_equal(pair->now, stored->place[i]);
         pair->fetched[i] = next_instruction(&pair->now[i], &pair->words[i]);
         memcpy(pair->before[i], pair->now[i].image.data, FLISKADEE_IMAGE_BYTES);
     }
@@ -288,11 +317,21 @@ static bool newly_apart(const struct pair *pair, unsigned word)
            && !words_equal(pair->now[0].image.data, pair->now[1].image.data, word);
 }
 
+/* The word that one side has stored to, where it was equal and is no longer. */
+static bool store_parts(const struct pair *pair, const struct stored *stored, unsigned side)
+{
+    return stored->equal[side] && !places_equal(pair->now, stored->place[side]);
+}
+
+static bool same_place(const struct stored *stored)
+{
+    return stored->place[0].memory == stored->place[1].memory && stored->place[0].offset == stored->place[1].offset;
+}
+
 static bool parted(const struct pair *pair, const struct stored *stored)
 {
-    for (unsigned i = 0; i < 2; i++)
-        if (stored->equal[i] && !ram_word_equal(pair, stored->word[i]))
-            return true;
+    if (store_parts(pair, stored, 0) || store_parts(pair, stored, 1))
+        return true;
     if (memcmp(pair->now[0].image.data, pair->now[1].image.data, FLISKADEE_IMAGE_BYTES) == 0)
         return false;
     for (unsigned word = 0; word < FLISKADEE_IMAGE_WORDS; word++)
@@ -311,7 +350,8 @@ static void print_sides(const struct pair *pair)
             disassemble(pair->words[i], pc, text, sizeof text);
             printf("%s  %08X  %08X  %s\n", labels[i], (unsigned)pc, (unsigned)pair->words[i], text);
         } else {
-            printf("%s  %08X  nothing is fetched there\n", labels[i], (unsigned)pc);
+            printf("%s  %08X  nothing is fetched %s\n", labels[i], (unsigned)pc,
+                   in_pad(&pair->now[i], pc) ? "from the pad" : "there");
         }
     }
     printf("\n");
@@ -440,9 +480,8 @@ static void print_parting(const struct pair *pair, const struct stored *stored, 
         if (newly_apart(pair, word))
             print_difference(pair->now[0].image.data, pair->now[1].image.data, word);
     for (unsigned i = 0; i < 2; i++)
-        if (stored->equal[i] && !ram_word_equal(pair, stored->word[i])
-            && (i == 0 || !stored->equal[0] || stored->word[0] != stored->word[1]))
-            print_ram_word(&pair->now[0].ram, &pair->now[1].ram, stored->word[i]);
+        if (store_parts(pair, stored, i) && (i == 0 || !stored->equal[0] || !same_place(stored)))
+            print_place(pair->now, stored->place[i]);
     if (newly_apart(pair, FLISKADEE_WORD_COP2 + FLISKADEE_COP2_FLAG))
         print_flag_sides(flags[0], flags[1]);
     print_causes(causes);
@@ -456,12 +495,11 @@ static void list_start(struct pair *pair)
     const uint8_t *second = pair->now[1].image.data;
     for (unsigned word = 0; word < FLISKADEE_IMAGE_WORDS; word++)
         pair->apart_at_start[word] = !words_equal(first, second, word);
-    if (memcmp(first, second, FLISKADEE_IMAGE_BYTES) == 0
-        && memcmp(pair->now[0].ram.data, pair->now[1].ram.data, pair->now[0].ram.length) == 0)
+    if (machines_equal(&pair->now[0], &pair->now[1]))
         return;
     printf("Different at the start already, and not counted:\n");
     compare_images(first, second);
-    compare_ram(&pair->now[0].ram, &pair->now[1].ram);
+    compare_memories(pair->now);
     printf("\n");
 }
 
@@ -481,8 +519,7 @@ static uint64_t skip_pieces(struct pair *pair, uint64_t count)
         struct outcome outcomes[2];
         for (unsigned i = 0; i < 2; i++)
             outcomes[i] = run_piece(&pair->now[i], PIECE);
-        if (outcomes[0].code != FLISKADEE_DONE || outcomes[1].code != FLISKADEE_DONE || !registers_equal(pair)
-            || !rams_equal(pair)) {
+        if (outcomes[0].code != FLISKADEE_DONE || outcomes[1].code != FLISKADEE_DONE || !all_equal(pair)) {
             for (unsigned i = 0; i < 2; i++)
                 assign_machine(&pair->now[i], &kept[i]);
             break;
@@ -500,7 +537,7 @@ static uint64_t skip_pieces(struct pair *pair, uint64_t count)
 static void follow_meeting(struct pair *pair, uint64_t done, uint64_t count)
 {
     struct stored stored;
-    if (registers_equal(pair) && rams_equal(pair)) {
+    if (all_equal(pair)) {
         printf("What counts is equal again after the same step.\n");
         return;
     }
@@ -509,7 +546,7 @@ static void follow_meeting(struct pair *pair, uint64_t done, uint64_t count)
         if (outcome.code != FLISKADEE_DONE)
             break;
         done++;
-        if (registers_equal(pair) && rams_equal(pair)) {
+        if (all_equal(pair)) {
             printf("They meet again after step %" PRIu64 ".\n", done);
             return;
         }
@@ -549,7 +586,6 @@ static int follow_pair(struct pair *pair, uint64_t count)
 
 int follow_parting(struct machine machines[2], uint64_t count, struct part_options options)
 {
-    struct machine start[2];
     struct pair pair = {.now = machines, .options = options};
     for (unsigned i = 0; i < 2; i++) {
         struct outcome outcome = run_piece(&machines[i], 0);
@@ -561,17 +597,15 @@ int follow_parting(struct machine machines[2], uint64_t count, struct part_optio
                  machines[1].ram.length);
         return STATUS_TROUBLE;
     }
-    if (!copy_machine(&start[0], &machines[0]))
+    if (!copy_machine(&pair.start[0], &machines[0]))
         return STATUS_TROUBLE;
-    if (!copy_machine(&start[1], &machines[1])) {
-        free_machine(&start[0]);
+    if (!copy_machine(&pair.start[1], &machines[1])) {
+        free_machine(&pair.start[0]);
         return STATUS_TROUBLE;
     }
-    pair.start_ram[0] = start[0].ram.data;
-    pair.start_ram[1] = start[1].ram.data;
     list_start(&pair);
     int status = follow_pair(&pair, count);
-    free_machine(&start[0]);
-    free_machine(&start[1]);
+    free_machine(&pair.start[0]);
+    free_machine(&pair.start[1]);
     return status;
 }

@@ -24,9 +24,9 @@ bool took_exception(const uint8_t *before, const uint8_t *after);
    leave this bit set, or -1 for all. */
 int follow_flags(struct machine *machine, uint64_t count, int bit, bool last_alone);
 
-/* How two machines differ: the registers, and RAM. Answers how many words do. */
+/* How two machines differ: the registers; RAM and the pad. Answers how many words do. */
 uint64_t compare_images(const uint8_t *first, const uint8_t *second);
-uint64_t compare_ram(const struct bytes *first, const struct bytes *second);
+uint64_t compare_memories(const struct machine machines[2]);
 
 struct part_options {
     bool flag_alone; /* FLAG alone is compared */

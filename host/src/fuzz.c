@@ -1,7 +1,7 @@
 /*
  * Differential test: random cases through the library and through the model.
- * Each is run, searched for a bit of FLAG, and asked for windows of RAM and for
- * the causes of FLAG's bits.
+ * Each is run, searched for a bit of FLAG, and asked for windows of RAM and pad
+ * and for the causes of FLAG's bits.
  *
  *   fuzz N SEED [--coverage] [--whole] [--case K]
  *
@@ -99,16 +99,16 @@ static bool guards_intact(const struct buffer *b)
 
 /* ---- The two sides ------------------------------------------------------------- */
 
-typedef uint64_t run_function(uint8_t *, size_t, uint8_t *, size_t, uint64_t);
-typedef uint64_t find_flag_function(uint8_t *, size_t, uint8_t *, size_t, uint64_t, uint32_t);
+typedef uint64_t run_function(const struct fliskadee_lent *, uint64_t);
+typedef uint64_t find_flag_function(const struct fliskadee_lent *, uint64_t, uint32_t);
 typedef struct model_answer causes_function(const uint8_t *, size_t, uint32_t, uint32_t *, size_t);
 
 struct side {
     run_function *run;
     find_flag_function *find_flag;
     causes_function *causes;
-    struct area image_area, ram_area, words_area;
-    struct buffer image, ram, words;
+    struct area image_area, ram_area, pad_area, words_area;
+    struct buffer image, ram, pad, words;
     uint64_t answer;
     struct model_answer causes_answer;
 };
@@ -122,8 +122,18 @@ static struct model_answer library_causes(const uint8_t *image, size_t image_len
     return (struct model_answer){a.code, a.number};
 }
 
-static struct side library = {.run = fliskadee_run, .find_flag = fliskadee_find_flag, .causes = library_causes};
-static struct side model = {.run = model_run, .find_flag = model_find_flag, .causes = model_causes};
+static uint64_t model_run_lent(const struct fliskadee_lent *l, uint64_t count)
+{
+    return model_run(l->image, l->image_length, l->ram, l->ram_length, l->pad, l->pad_length, count);
+}
+
+static uint64_t model_find_flag_lent(const struct fliskadee_lent *l, uint64_t count, uint32_t mask)
+{
+    return model_find_flag(l->image, l->image_length, l->ram, l->ram_length, l->pad, l->pad_length, count, mask);
+}
+
+static struct side library = {.run = fliskadee_run_lent, .find_flag = fliskadee_find_flag_lent, .causes = library_causes};
+static struct side model = {.run = model_run_lent, .find_flag = model_find_flag_lent, .causes = model_causes};
 
 /* A call on a machine: the run, or the search with a mask. */
 struct call {
@@ -135,9 +145,9 @@ struct call {
 /* Makes the call on the side as it stands. */
 static uint64_t make_call(struct side *s, const struct call *call)
 {
-    if (call->search)
-        return s->find_flag(s->image.bytes, s->image.length, s->ram.bytes, s->ram.length, call->count, call->mask);
-    return s->run(s->image.bytes, s->image.length, s->ram.bytes, s->ram.length, call->count);
+    const struct fliskadee_lent lent = {s->image.bytes, s->image.length, s->ram.bytes, s->ram.length, s->pad.bytes, s->pad.length};
+
+    return call->search ? s->find_flag(&lent, call->count, call->mask) : s->run(&lent, call->count);
 }
 
 static uint64_t run_on(struct side *s, uint64_t count)
@@ -150,8 +160,10 @@ static void call_side(struct side *s, const struct test_case *c, const struct ca
 {
     s->image = place(&s->image_area, c->image_length, c->placement);
     s->ram = place(&s->ram_area, c->ram_length, c->placement >> 8);
+    s->pad = place(&s->pad_area, c->pad_length, c->placement >> 48);
     memcpy(s->image.bytes, c->image, c->image_length);
     memcpy(s->ram.bytes, c->ram, c->ram_length);
+    memcpy(s->pad.bytes, c->pad, c->pad_length);
     s->answer = make_call(s, call);
 }
 
@@ -163,7 +175,8 @@ static bool same_bytes(const struct buffer *a, const struct buffer *b)
 static bool agree(void)
 {
     return library.answer == model.answer && same_bytes(&library.image, &model.image) &&
-           same_bytes(&library.ram, &model.ram) && guards_intact(&library.image) && guards_intact(&library.ram);
+           same_bytes(&library.ram, &model.ram) && same_bytes(&library.pad, &model.pad) && guards_intact(&library.image) &&
+           guards_intact(&library.ram) && guards_intact(&library.pad);
 }
 
 /* Whether the two agree on the call, but with this count. */
@@ -182,7 +195,7 @@ static unsigned code_of(uint64_t answer)
 
 static bool refused(uint64_t answer)
 {
-    return code_of(answer) >= 1 && code_of(answer) <= 4;
+    return (code_of(answer) >= 1 && code_of(answer) <= 4) || code_of(answer) == MODEL_PAD_LENGTH;
 }
 
 /* ---- Reports --------------------------------------------------------------------- */
@@ -208,8 +221,9 @@ static const char *image_word_name(unsigned number)
 
 static void print_case(const struct test_case *c, const struct call *call)
 {
-    printf("seed %llu, case %llu: %s; image of %zu bytes, RAM of %zu bytes, count %llu", (unsigned long long)seed,
-           (unsigned long long)case_number, c->kind, c->image_length, c->ram_length, (unsigned long long)call->count);
+    printf("seed %llu, case %llu: %s; image of %zu bytes, RAM of %zu bytes, pad of %zu bytes, count %llu",
+           (unsigned long long)seed, (unsigned long long)case_number, c->kind, c->image_length, c->ram_length, c->pad_length,
+           (unsigned long long)call->count);
     if (call->search)
         printf(", search with mask %08x", (unsigned)call->mask);
     printf("\n");
@@ -237,9 +251,22 @@ static void print_instruction(const struct side *s)
     printf("instruction at PC %08x: %08x %s\n", (unsigned)pc, (unsigned)word, text);
 }
 
-static void print_differences(void)
+static void print_bytes(const char *name, const struct buffer *l, const struct buffer *m)
 {
     unsigned shown = 0;
+    size_t i;
+
+    for (i = 0; i < l->length; i++)
+        if (l->bytes[i] != m->bytes[i] && shown++ < 32)
+            printf("  %s %06zx: library %02x, model %02x\n", name, i, l->bytes[i], m->bytes[i]);
+    if (shown > 32)
+        printf("  and %u further bytes of %s\n", shown - 32, name);
+    if (!guards_intact(l))
+        printf("  the library wrote outside the %s\n", name);
+}
+
+static void print_differences(void)
+{
     size_t i;
 
     if (library.answer != model.answer)
@@ -256,15 +283,10 @@ static void print_differences(void)
     } else if (!same_bytes(&library.image, &model.image)) {
         printf("  an image of the wrong length was changed\n");
     }
-    for (i = 0; i < library.ram.length; i++)
-        if (library.ram.bytes[i] != model.ram.bytes[i] && shown++ < 32)
-            printf("  RAM %06zx: library %02x, model %02x\n", i, library.ram.bytes[i], model.ram.bytes[i]);
-    if (shown > 32)
-        printf("  and %u further bytes of RAM\n", shown - 32);
     if (!guards_intact(&library.image))
         printf("  the library wrote outside the image\n");
-    if (!guards_intact(&library.ram))
-        printf("  the library wrote outside the RAM\n");
+    print_bytes("RAM", &library.ram, &model.ram);
+    print_bytes("pad", &library.pad, &model.pad);
 }
 
 /* Finds a step at which the two part: they agree with count - 1 and differ with count. */
@@ -314,10 +336,10 @@ static bool report_fault(const struct test_case *c, const struct call *call, con
 
 static bool report_window(const struct window *w, const char *what, uint64_t got, uint64_t expected)
 {
-    printf("DIFFERENCE\nseed %llu, case %llu: window of %llu bytes at %08x in RAM of %zu bytes\n"
+    printf("DIFFERENCE\nseed %llu, case %llu: window of %llu bytes at %08x, RAM of %zu bytes, pad of %zu bytes\n"
            "  %s: library %016llx, model %016llx\n",
            (unsigned long long)seed, (unsigned long long)case_number, (unsigned long long)w->length,
-           (unsigned)w->address, w->ram_length, what, (unsigned long long)got, (unsigned long long)expected);
+           (unsigned)w->address, w->ram_length, w->pad_length, what, (unsigned long long)got, (unsigned long long)expected);
     return false;
 }
 
@@ -389,7 +411,7 @@ static bool check_call(const struct test_case *c, const struct call *call)
     if (!refused(library.answer))
         return accepted_again(c, call);
     if (memcmp(library.image.bytes, c->image, c->image_length) != 0 ||
-        memcmp(library.ram.bytes, c->ram, c->ram_length) != 0)
+        memcmp(library.ram.bytes, c->ram, c->ram_length) != 0 || memcmp(library.pad.bytes, c->pad, c->pad_length) != 0)
         return report_fault(c, call, "a refused call changed something");
     return true;
 }
@@ -429,17 +451,26 @@ static bool check_run(const struct test_case *c)
     return refused(library.answer) || c->count > 5000 || (c->placement >> 32 & 7) != 0 || cut_in_two(c, &run);
 }
 
-/* The number, and the pointer that the header makes of it. */
+/* The number, and what the header makes of it. */
 static bool check_window(const struct test_case *c, const struct window *w)
 {
     struct buffer ram = place(&library.ram_area, w->ram_length, c->placement >> 8);
-    uint64_t expected = model_window(ram.bytes, w->ram_length, w->address, w->length);
-    uint64_t got = fliskadee_window(ram.bytes, w->ram_length, w->address, w->length);
-    uint8_t *bytes = fliskadee_window_bytes(ram.bytes, w->ram_length, w->address, w->length);
-    uint8_t *expected_bytes = expected % 0x100000000 == 0 ? NULL : ram.bytes + expected / 0x100000000;
+    struct buffer pad = place(&library.pad_area, w->pad_length, c->placement >> 48);
+    uint64_t expected = model_window(ram.bytes, w->ram_length, pad.bytes, w->pad_length, w->address, w->length);
+    uint64_t got = fliskadee_window(ram.bytes, w->ram_length, pad.bytes, w->pad_length, w->address, w->length);
+    uint8_t *bytes = fliskadee_window_bytes(ram.bytes, w->ram_length, pad.bytes, w->pad_length, w->address, w->length);
+    bool in_pad = expected >= 0x8000000000000000;
+    uint64_t place_in_it = expected / 0x100000000 % 0x80000000;
+    uint8_t *expected_bytes = expected % 0x100000000 == 0 ? NULL : (in_pad ? pad.bytes : ram.bytes) + place_in_it;
 
     if (got != expected)
         return report_window(w, "the number", got, expected);
+    if (FLISKADEE_WINDOW_IN_PAD(got) != in_pad)
+        return report_window(w, "whether it is in the pad", (uint64_t)FLISKADEE_WINDOW_IN_PAD(got), in_pad);
+    if (FLISKADEE_WINDOW_PLACE(got) != place_in_it)
+        return report_window(w, "the place", FLISKADEE_WINDOW_PLACE(got), place_in_it);
+    if (FLISKADEE_WINDOW_LENGTH(got) != expected % 0x100000000)
+        return report_window(w, "the length", FLISKADEE_WINDOW_LENGTH(got), expected % 0x100000000);
     if (bytes != expected_bytes)
         return report_window(w, "the pointer", (uintptr_t)bytes, (uintptr_t)expected_bytes);
     return true;
@@ -552,25 +583,29 @@ static bool read_options(int argc, char **argv, struct options *o)
     return good;
 }
 
+static void make_areas(struct side *s)
+{
+    s->image_area = make_area(CASE_IMAGE_CAPACITY);
+    s->ram_area = make_area(CASE_RAM_CAPACITY);
+    s->pad_area = make_area(CASE_PAD_CAPACITY);
+    s->words_area = make_area(4 * QUESTION_CAPACITY);
+}
+
 static void prepare(void)
 {
     static const int signals[] = {SIGSEGV, SIGBUS, SIGILL, SIGFPE, SIGABRT};
     size_t i;
 
-    library.image_area = make_area(CASE_IMAGE_CAPACITY);
-    library.ram_area = make_area(CASE_RAM_CAPACITY);
-    library.words_area = make_area(4 * QUESTION_CAPACITY);
-    model.image_area = make_area(CASE_IMAGE_CAPACITY);
-    model.ram_area = make_area(CASE_RAM_CAPACITY);
-    model.words_area = make_area(4 * QUESTION_CAPACITY);
+    make_areas(&library);
+    make_areas(&model);
     for (i = 0; i < sizeof signals / sizeof *signals; i++)
         signal(signals[i], on_signal);
 }
 
 int main(int argc, char **argv)
 {
-    static uint8_t case_image[CASE_IMAGE_CAPACITY], case_ram[CASE_RAM_CAPACITY];
-    struct test_case c = {.image = case_image, .ram = case_ram};
+    static uint8_t case_image[CASE_IMAGE_CAPACITY], case_ram[CASE_RAM_CAPACITY], case_pad[CASE_PAD_CAPACITY];
+    struct test_case c = {.image = case_image, .ram = case_ram, .pad = case_pad};
     struct options o = {0};
     struct case_answers answers;
     uint64_t steps = 0, ran;
@@ -578,6 +613,10 @@ int main(int argc, char **argv)
 
     if (!read_options(argc, argv, &o))
         return 2;
+    if (fliskadee_interface() != FLISKADEE_INTERFACE) {
+        printf("FAULT: the library's interface is %u, the header's %u\n", (unsigned)fliskadee_interface(), FLISKADEE_INTERFACE);
+        return 1;
+    }
     walking = o.coverage || o.whole;
     prepare();
     for (ran = 0; ran < o.cases; ran++) {

@@ -400,6 +400,10 @@ static uint32_t source(struct random *r)
     return below(r, 32);
 }
 
+#define PAD 0x1F800000u
+#define PAD_END (PAD + MODEL_PAD_BYTES)
+#define PAD_BASE 23 /* the register in which programs keep the pad's address */
+
 /* Programs keep pointers in 16..25, 27 and 28 and write elsewhere. */
 static uint32_t destination(struct random *r, const struct layout *l)
 {
@@ -420,6 +424,27 @@ static int32_t offset(struct random *r)
     case 1: return chance(r, 10) ? (int16_t)random_word(r) : 0;
     default: return ((int32_t)below(r, 33) - 16) * 4;
     }
+}
+
+/* In the pad, half of them around its ends. */
+static int32_t pad_offset(struct random *r)
+{
+    int32_t at = (int32_t)below(r, 8) - 4;
+
+    switch (below(r, 4)) {
+    case 0: break;
+    case 1: at += MODEL_PAD_BYTES; break;
+    default: at = (int32_t)below(r, MODEL_PAD_BYTES); break;
+    }
+    return chance(r, 60) ? at & ~3 : at;
+}
+
+/* A load or store; those from the pad's address stay in the pad or near it. */
+static uint32_t encode_access(struct random *r, const struct layout *l, uint32_t opcode, uint32_t rt)
+{
+    uint32_t rs = base(r, l);
+
+    return encode_i(opcode, rt, rs, rs == PAD_BASE && chance(r, 80) ? pad_offset(r) : offset(r));
 }
 
 static uint32_t random_command(struct random *r)
@@ -469,8 +494,8 @@ static uint32_t random_load_or_store(struct random *r, const struct layout *l)
     static const uint8_t stores[] = {OP_SB, OP_SH, OP_SWL, OP_SW, OP_SWR};
 
     if (chance(r, 60))
-        return encode_i(PICK(r, loads), destination(r, l), base(r, l), offset(r));
-    return encode_i(PICK(r, stores), source(r), base(r, l), offset(r));
+        return encode_access(r, l, PICK(r, loads), destination(r, l));
+    return encode_access(r, l, PICK(r, stores), source(r));
 }
 
 static uint32_t random_alu(struct random *r, const struct layout *l)
@@ -501,8 +526,8 @@ static uint32_t random_cop2_access(struct random *r, const struct layout *l)
     case 1: return encode_move(2, 2, destination(r, l), chance(r, 20) ? 31 : below(r, 32));
     case 2: return encode_move(2, 4, source(r), number);
     case 3: return encode_move(2, 6, source(r), chance(r, 20) ? 31 : below(r, 32));
-    case 4: return encode_i(OP_LWC2, number, base(r, l), offset(r));
-    default: return encode_i(OP_SWC2, number, base(r, l), offset(r));
+    case 4: return encode_access(r, l, OP_LWC2, number);
+    default: return encode_access(r, l, OP_SWC2, number);
     }
 }
 
@@ -602,7 +627,7 @@ static uint32_t random_sr(struct random *r)
     return sr & SR_MASK;
 }
 
-/* The segments that reach RAM. */
+/* The segments that reach RAM; the first two reach the pad. */
 static const uint32_t segments[] = {0, 0x80000000, 0xA0000000};
 
 /* User mode reaches only the first. */
@@ -613,20 +638,36 @@ static uint32_t segment(struct random *r, uint32_t sr)
     return PICK(r, segments);
 }
 
-/* An address for a load or store: in RAM, at its end, misaligned, or nowhere. */
+/* The pad's address, mostly through a segment that reaches it. */
+static uint32_t pad_address(struct random *r, uint32_t sr)
+{
+    return PAD + (chance(r, 85) ? segment(r, sr) & 0x80000000 : below(r, 8) << 29);
+}
+
+/* An address for a load or store: in RAM, at its end, in the pad, misaligned, or nowhere. */
 static uint32_t data_address(struct random *r, uint32_t sr, uint32_t low, uint32_t high)
 {
     uint32_t address = low + below(r, high - low);
 
     if (chance(r, 80))
         address &= ~3u;
-    switch (below(r, 24)) {
+    switch (below(r, 26)) {
     case 0: return random_word(r);
     case 1: return high - 2 + below(r, 5);
     case 2: return 0x1FFFFFF8 + below(r, 16);
     case 3: return address | 0x20000000u * below(r, 8);
+    case 4: case 5: return pad_address(r, sr) + (uint32_t)pad_offset(r);
     default: return address | segment(r, sr);
     }
+}
+
+/* Within a word of an end of the pad, of RAM or of a segment, mostly through a segment that reaches RAM. */
+static uint32_t edge_address(struct random *r, uint32_t ram_length)
+{
+    const uint32_t edges[] = {PAD, PAD, PAD_END, PAD_END, ram_length, 0};
+    uint32_t address = PICK(r, edges) + below(r, 8) - 4 + (chance(r, 75) ? PICK(r, segments) : below(r, 8) << 29);
+
+    return chance(r, 50) ? address & ~3u : address;
 }
 
 static void random_general(struct random *r, uint32_t *word)
@@ -676,6 +717,15 @@ static void operands_at_edges(struct random *r, uint32_t *word, uint32_t instruc
     }
 }
 
+/* A load or store whose base and offset give an address at an edge. */
+static void address_at_edge(struct random *r, uint32_t *word, uint32_t instruction, uint32_t ram_length)
+{
+    uint32_t base = instruction >> 21 & 31;
+
+    if (instruction >> 26 >= OP_LB && base != 0 && chance(r, 25))
+        word[base] = edge_address(r, ram_length) - extend(instruction);
+}
+
 /* ---- Kinds of cases -------------------------------------------------------------- */
 
 static void step_case(struct random *r, struct test_case *c)
@@ -692,7 +742,7 @@ static void step_case(struct random *r, struct test_case *c)
     random_cop2(r, word + COP2);
     for (i = 16; i < 26; i++)
         if (chance(r, 85))
-            word[i] = data_address(r, word[SR], 0, (uint32_t)c->ram_length);
+            word[i] = i == PAD_BASE ? pad_address(r, word[SR]) : data_address(r, word[SR], 0, (uint32_t)c->ram_length);
     for (i = 0; i < c->ram_length; i += 4) {
         l.position = i;
         put_word(c->ram + i, chance(r, 70) ? random_instruction(r, &l) : edge_word(r));
@@ -700,9 +750,10 @@ static void step_case(struct random *r, struct test_case *c)
     l.position = below(r, (uint32_t)c->ram_length / 4) * 4;
     put_word(c->ram + l.position, random_instruction(r, &l));
     operands_at_edges(r, word, get_word(c->ram + l.position));
+    address_at_edge(r, word, get_word(c->ram + l.position), (uint32_t)c->ram_length);
     word[PC] = l.position | segment(r, word[SR]);
-    if (chance(r, 4))
-        word[PC] = edge_word(r);
+    if (chance(r, 6))
+        word[PC] = chance(r, 60) ? edge_word(r) : edge_address(r, (uint32_t)c->ram_length);
     word[NEXT] = chance(r, 70) ? word[PC] + 4 : chance(r, 60) ? word[PC] + 4 * below(r, 16) : edge_word(r);
     word[SLOT] = chance(r, 30);
     random_waiting(r, word, get_word(c->ram + l.position));
@@ -730,6 +781,17 @@ static void command_case(struct random *r, struct test_case *c)
     random_waiting(r, word, 0);
     put_image(c, word);
     c->count = 1 + (chance(r, 30) ? below(r, 8) : 0);
+}
+
+/* The room behind it is filled too, since a length that is refused may be greater. */
+static void random_pad(struct random *r, struct test_case *c)
+{
+    uint32_t i;
+
+    c->pad_length = MODEL_PAD_BYTES;
+    for (i = 0; i < MODEL_PAD_BYTES; i += 4)
+        put_word(c->pad + i, edge_word(r));
+    memset(c->pad + MODEL_PAD_BYTES, 0x3C, CASE_PAD_CAPACITY - MODEL_PAD_BYTES);
 }
 
 /* The code at the exception vector: most kinds bring the run back into the program. */
@@ -786,7 +848,7 @@ static void program_case(struct random *r, struct test_case *c, uint32_t ram_len
         word[SR] &= ~0x00400000u;
     word[28] = word[SR];
     for (i = 16; i < 24; i++)
-        word[i] = data_address(r, word[SR], l.code_end, ram_length);
+        word[i] = i == PAD_BASE ? pad_address(r, word[SR]) : data_address(r, word[SR], l.code_end, ram_length);
     for (i = 24; i < 26; i++)
         word[i] = (l.code + below(r, code_bytes / 4) * 4) | ((word[SR] & 2) ? 0 : segment(r, word[SR]));
     put_handler(r, c, &l);
@@ -834,6 +896,14 @@ static size_t bad_ram_length(struct random *r)
     return chance(r, 70) ? PICK(r, small) : below(r, 1000) * 4 + 1 + below(r, 3);
 }
 
+static size_t bad_pad_length(struct random *r)
+{
+    static const size_t lengths[] = {0, 0, 1, 5, 512, 1020, 1022, 1023, 1025, 1026, 1028, 2048, CASE_PAD_CAPACITY};
+    size_t length = chance(r, 80) ? PICK(r, lengths) : below(r, 2 * MODEL_PAD_BYTES);
+
+    return length == MODEL_PAD_BYTES ? 0 : length;
+}
+
 /* Spoils one word that 01 binds; the bit is one whose flip cannot give a well-formed image. */
 static void spoil(struct random *r, uint32_t *word)
 {
@@ -879,7 +949,7 @@ static void spoil(struct random *r, uint32_t *word)
 static void refused_case(struct random *r, struct test_case *c)
 {
     static const size_t lengths[] = {0, 0, 1, 4, 428, 431, 433, 436, 448, 452, 863, 864, 4096};
-    uint32_t word[108], choice = below(r, 20), i;
+    uint32_t word[108], choice = below(r, 24), i;
 
     step_case(r, c);
     c->kind = "a refusal";
@@ -894,6 +964,10 @@ static void refused_case(struct random *r, struct test_case *c)
     } else if (chance(r, 30)) {
         c->count = 0;
     }
+    if (choice >= 20 || (choice >= 4 && chance(r, 25))) {
+        c->pad_length = bad_pad_length(r);
+        c->expected = EXPECT_6;
+    }
     if ((choice >= 4 && choice < 8) || (choice > 8 && chance(r, 25))) {
         c->ram_length = bad_ram_length(r);
         memset(c->ram, 0xA5, c->ram_length);
@@ -907,7 +981,7 @@ static void refused_case(struct random *r, struct test_case *c)
         c->expected = EXPECT_ANY;
     }
     put_image(c, word);
-    if (choice >= 15) {
+    if (choice >= 15 && choice < 20) {
         c->image_length = PICK(r, lengths);
         c->expected = EXPECT_1;
     }
@@ -932,7 +1006,7 @@ static uint64_t random_search_count(struct random *r, uint64_t count)
     return count <= 5000 || count > 1000000 || chance(r, 20) ? count : below(r, 5000);
 }
 
-/* Mostly the case's own; RAM is not read, so another costs nothing. */
+/* Mostly the case's own; no memory is read, so another costs nothing. */
 static size_t window_ram_length(struct random *r, size_t own)
 {
     static const size_t good[] = {4, 8, 2097148, 2097152};
@@ -942,34 +1016,45 @@ static size_t window_ram_length(struct random *r, size_t own)
     return chance(r, 50) ? bad_ram_length(r) : chance(r, 50) ? PICK(r, good) : 4 * (1 + below(r, 524288));
 }
 
-/* Near an end of RAM or of a segment, inside RAM, past its end by a multiple of its length, or anywhere. */
+static size_t window_pad_length(struct random *r, size_t own)
+{
+    return chance(r, 85) ? own : chance(r, 70) ? bad_pad_length(r) : MODEL_PAD_BYTES;
+}
+
+/* Near an end of a memory or of a segment, inside a memory, past RAM's end by a multiple of its length, or anywhere. */
 static uint32_t window_address(struct random *r, uint32_t ram_length)
 {
     uint32_t base = chance(r, 85) ? PICK(r, segments) : below(r, 8) << 29;
     uint32_t around = below(r, 9) - 4; /* below 0 for the segment before */
 
-    switch (below(r, 8)) {
+    switch (below(r, 12)) {
     case 0: return base + around;
     case 1: case 2: return base + ram_length + around;
     case 3: return base + ram_length * below(r, 16) + below(r, ram_length + 4);
     case 4: return random_word(r);
+    case 5: return base + PAD + around;
+    case 6: return base + PAD_END + around;
+    case 7: return base + PAD + below(r, MODEL_PAD_BYTES);
+    case 8: return base + (chance(r, 30) ? PAD : PAD + 4 * below(r, 256));
     default: return base + below(r, ram_length + 4);
     }
 }
 
-/* Around what is left of RAM after the address, small, or with more than 32 bits. */
+/* Around what is left of the memory after the address, small, or with more than 32 bits. */
 static uint64_t window_length(struct random *r, const struct window *w)
 {
-    static const uint64_t lengths[] = {0, 0, 0, 1, 2, 3, 4, 2097152, 2097153, 0x1FFFFFFF, 0x20000000, 0x80000000,
+    static const uint64_t lengths[] = {0, 0, 0, 1, 2, 3, 4, 1024, 1025, 2097152, 2097153, 0x1FFFFFFF, 0x20000000, 0x80000000,
                                        0xFFFFFFFF, 0x100000000, 0x100000001, 0x7FFFFFFFFFFFFFFF, 0x8000000000000000,
                                        0x8000000000000001, UINT64_MAX - 1, UINT64_MAX};
-    uint64_t left = (uint64_t)w->ram_length - (w->address & 0x1FFFFFFF);
+    uint32_t place = w->address & 0x1FFFFFFF;
+    bool near_pad = place >= PAD - 16;
+    uint64_t left = (near_pad ? PAD_END : (uint64_t)w->ram_length) - place;
 
     switch (below(r, 6)) {
     case 0: return PICK(r, lengths);
     case 1: case 2: return left + below(r, 3) - 1;
     case 3: return left + ((uint64_t)random_word(r) << 32); /* fits in its low 32 bits alone */
-    default: return below(r, (uint32_t)w->ram_length + 2);
+    default: return below(r, (near_pad ? MODEL_PAD_BYTES : (uint32_t)w->ram_length) + 2);
     }
 }
 
@@ -979,6 +1064,7 @@ static void random_windows(struct random *r, struct test_case *c)
 
     for (w = c->windows; w < c->windows + CASE_WINDOWS; w++) {
         w->ram_length = window_ram_length(r, c->ram_length);
+        w->pad_length = window_pad_length(r, c->pad_length);
         w->address = window_address(r, (uint32_t)w->ram_length);
         w->length = window_length(r, w);
     }
@@ -1021,12 +1107,13 @@ void generate_case(struct test_case *c, uint64_t seed, uint64_t number)
 
     seed_random(r, seed, number);
     c->expected = EXPECT_RUN;
+    random_pad(r, c);
     choice = below(r, 10000);
     if (choice < 4000)
         step_case(r, c);
     else if (choice < 6200)
         command_case(r, c);
-    else if (choice < 8800)
+    else if (choice < 8600)
         small_program_case(r, c);
     else if (choice < 9990)
         refused_case(r, c);

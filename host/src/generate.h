@@ -7,6 +7,7 @@
 
 #define CASE_IMAGE_CAPACITY 4096
 #define CASE_RAM_CAPACITY 4194304
+#define CASE_PAD_CAPACITY 4096
 
 /* What the generator meant the run to answer; it is checked against the model. */
 enum expectation {
@@ -15,17 +16,19 @@ enum expectation {
     EXPECT_2 = 2,
     EXPECT_3 = 3,
     EXPECT_4 = 4,
+    EXPECT_6 = 6,
     EXPECT_ANY = -1
 };
 
-/* What a RAM window is asked for; the RAM need not be the case's own. */
+/* What a window is asked for; the memories need not be the case's own. */
 struct window {
     size_t ram_length; /* at most CASE_RAM_CAPACITY */
+    size_t pad_length; /* at most CASE_PAD_CAPACITY */
     uint32_t address;
     uint64_t length;
 };
 
-#define CASE_WINDOWS 8
+#define CASE_WINDOWS 12
 
 /* What the causes of FLAG's bits are asked for, on the case's image. */
 struct question {
@@ -42,6 +45,8 @@ struct test_case {
     size_t image_length;
     uint8_t *ram; /* room for CASE_RAM_CAPACITY bytes */
     size_t ram_length;
+    uint8_t *pad; /* room for CASE_PAD_CAPACITY bytes */
+    size_t pad_length;
     uint64_t count;
     uint64_t search_count; /* refused just when count is, but mostly smaller where count is large, to save time */
     uint32_t mask; /* of the search */

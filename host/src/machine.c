@@ -42,15 +42,7 @@ void free_machine(struct machine *machine)
 {
     free(machine->image.data);
     free(machine->ram.data);
-}
-
-bool read_machine(struct machine *machine, const char *image, const char *ram)
-{
-    machine->ram.data = NULL;
-    if (read_file(image, FILE_MOST, &machine->image) && read_file(ram, FILE_MOST, &machine->ram))
-        return true;
-    free_machine(machine);
-    return false;
+    free(machine->pad.data);
 }
 
 static bool copy_bytes(struct bytes *to, const struct bytes *from)
@@ -65,10 +57,27 @@ static bool copy_bytes(struct bytes *to, const struct bytes *from)
     return true;
 }
 
+static bool read_pad(const char *path, struct bytes *pad)
+{
+    static uint8_t zeros[FLISKADEE_PAD_BYTES];
+    const struct bytes none = {zeros, sizeof zeros};
+    return path == NULL ? copy_bytes(pad, &none) : read_file(path, FILE_MOST, pad);
+}
+
+bool read_machine(struct machine *machine, const char *image, const char *ram, const char *pad)
+{
+    memset(machine, 0, sizeof *machine);
+    if (read_file(image, FILE_MOST, &machine->image) && read_file(ram, FILE_MOST, &machine->ram)
+        && read_pad(pad, &machine->pad))
+        return true;
+    free_machine(machine);
+    return false;
+}
+
 bool copy_machine(struct machine *to, const struct machine *from)
 {
-    to->ram.data = NULL;
-    if (copy_bytes(&to->image, &from->image) && copy_bytes(&to->ram, &from->ram))
+    memset(to, 0, sizeof *to);
+    if (copy_bytes(&to->image, &from->image) && copy_bytes(&to->ram, &from->ram) && copy_bytes(&to->pad, &from->pad))
         return true;
     free_machine(to);
     return false;
@@ -78,36 +87,69 @@ void assign_machine(struct machine *to, const struct machine *from)
 {
     memcpy(to->image.data, from->image.data, from->image.length);
     memcpy(to->ram.data, from->ram.data, from->ram.length);
+    memcpy(to->pad.data, from->pad.data, from->pad.length);
+}
+
+bool machines_equal(const struct machine *first, const struct machine *second)
+{
+    return memcmp(first->image.data, second->image.data, first->image.length) == 0
+           && memcmp(first->ram.data, second->ram.data, first->ram.length) == 0
+           && memcmp(first->pad.data, second->pad.data, first->pad.length) == 0;
+}
+
+static struct fliskadee_lent lend(const struct machine *machine)
+{
+    return (struct fliskadee_lent){machine->image.data, machine->image.length, machine->ram.data,
+                                   machine->ram.length, machine->pad.data,     machine->pad.length};
+}
+
+static struct outcome outcome_of(uint64_t answer)
+{
+    return (struct outcome){FLISKADEE_CODE(answer), FLISKADEE_STEPS(answer)};
 }
 
 struct outcome run_piece(struct machine *machine, uint64_t count)
 {
-    uint64_t answer = fliskadee_run(machine->image.data, machine->image.length, machine->ram.data, machine->ram.length,
-                                    count);
-    return (struct outcome){FLISKADEE_CODE(answer), FLISKADEE_STEPS(answer)};
+    struct fliskadee_lent lent = lend(machine);
+    return outcome_of(fliskadee_run_lent(&lent, count));
 }
 
 struct outcome find_piece(struct machine *machine, uint64_t count, uint32_t mask)
 {
-    uint64_t answer = fliskadee_find_flag(machine->image.data, machine->image.length, machine->ram.data,
-                                          machine->ram.length, count, mask);
-    return (struct outcome){FLISKADEE_CODE(answer), FLISKADEE_STEPS(answer)};
+    struct fliskadee_lent lent = lend(machine);
+    return outcome_of(fliskadee_find_flag_lent(&lent, count, mask));
 }
 
-bool fetch_word(const struct bytes *ram, uint32_t address, uint32_t *word)
+/* ---- Memory ---- */
+
+bool find_word(const struct machine *machine, uint32_t address, struct place *place)
 {
-    uint64_t window = fliskadee_window(ram->data, ram->length, address, 4);
-    if ((window & 0xFFFFFFFF) != 4)
+    uint64_t part = fliskadee_window(machine->ram.data, machine->ram.length, machine->pad.data, machine->pad.length, address, 4);
+    place->memory = FLISKADEE_WINDOW_IN_PAD(part) ? MEMORY_PAD : MEMORY_RAM;
+    place->offset = FLISKADEE_WINDOW_PLACE(part);
+    return FLISKADEE_WINDOW_LENGTH(part) != 0;
+}
+
+bool fetch_word(const struct machine *machine, uint32_t address, uint32_t *word)
+{
+    struct place place;
+    if (!find_word(machine, address, &place) || place.memory != MEMORY_RAM)
         return false;
-    *word = fliskadee_get_word(ram->data + (window >> 32), 0);
+    *word = fliskadee_get_word(machine->ram.data + place.offset, 0);
     return true;
+}
+
+bool in_pad(const struct machine *machine, uint32_t address)
+{
+    struct place place;
+    return find_word(machine, address, &place) && place.memory == MEMORY_PAD;
 }
 
 bool next_instruction(const struct machine *machine, uint32_t *word)
 {
     uint32_t pc = fliskadee_get_word(machine->image.data, FLISKADEE_WORD_PC);
     bool user = (fliskadee_get_word(machine->image.data, FLISKADEE_WORD_SR) >> 1 & 1) != 0;
-    return pc % 4 == 0 && !(user && pc >> 31 != 0) && fetch_word(&machine->ram, pc, word);
+    return pc % 4 == 0 && !(user && pc >> 31 != 0) && fetch_word(machine, pc, word);
 }
 
 void print_instruction(const struct machine *machine, const char *label)
@@ -115,7 +157,7 @@ void print_instruction(const struct machine *machine, const char *label)
     uint32_t pc = fliskadee_get_word(machine->image.data, FLISKADEE_WORD_PC);
     uint32_t word;
     char text[128];
-    if (!fetch_word(&machine->ram, pc, &word))
+    if (!fetch_word(machine, pc, &word))
         return;
     disassemble(word, pc, text, sizeof text);
     printf("%s%08X  %08X  %s\n", label, (unsigned)pc, (unsigned)word, text);
@@ -137,6 +179,10 @@ int print_answer(struct outcome outcome, const struct machine *machine)
     case FLISKADEE_REFUSED_RAM_LENGTH:
         complain("code 3: refused, the RAM has %zu bytes in place of a multiple of 4 from %d to %d; nothing was run.",
                  machine->ram.length, RAM_LEAST, FLISKADEE_MOST_RAM);
+        return STATUS_TROUBLE;
+    case FLISKADEE_REFUSED_PAD_LENGTH:
+        complain("code 6: refused, the pad has %zu bytes in place of %d; nothing was run.", machine->pad.length,
+                 FLISKADEE_PAD_BYTES);
         return STATUS_TROUBLE;
     case FLISKADEE_REFUSED_COUNT: complain("code 4: refused, the step count is too large; nothing was run."); return STATUS_TROUBLE;
     case FLISKADEE_UNLISTED:

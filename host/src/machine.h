@@ -1,4 +1,4 @@
-/* A machine in two buffers, and the library's calls on it. */
+/* A machine in three buffers, and the library's calls on it. */
 #ifndef FLISKADEE_HOST_MACHINE_H
 #define FLISKADEE_HOST_MACHINE_H
 
@@ -11,24 +11,43 @@ enum { STATUS_FINE = 0, STATUS_FINDING = 1, STATUS_TROUBLE = 2 };
 
 enum {
     PIECE = 1000000,          /* the most steps that the library takes in one call */
-    FILE_MOST = 16 * 1048576  /* well over any good RAM, so that the library gets to judge bad ones */
+    FILE_MOST = 16 * 1048576  /* well over any good RAM or pad, so that the library gets to judge bad ones */
 };
 
 struct machine {
     struct bytes image;
     struct bytes ram;
+    struct bytes pad;
 };
+
+/* The two memories of a machine, and a place in one of them. */
+enum memory { MEMORY_RAM, MEMORY_PAD, MEMORIES };
+
+struct place {
+    enum memory memory;
+    size_t offset; /* in bytes */
+};
+
+enum { PAD_BASE = 0x1F800000 }; /* the pad's physical address; that of RAM is 0 */
 
 struct outcome {
     unsigned code;
     uint64_t steps;
 };
 
-/* Each complains where it fails, and answers false. */
-bool read_machine(struct machine *machine, const char *image, const char *ram);
+/* Each complains where it fails, and answers false. Without a path the pad is zeros. */
+bool read_machine(struct machine *machine, const char *image, const char *ram, const char *pad);
 bool copy_machine(struct machine *to, const struct machine *from);
 void assign_machine(struct machine *to, const struct machine *from);
 void free_machine(struct machine *machine);
+
+/* Whether two machines whose buffers have the same lengths are equal. */
+bool machines_equal(const struct machine *first, const struct machine *second);
+
+static inline const struct bytes *memory_of(const struct machine *machine, enum memory memory)
+{
+    return memory == MEMORY_RAM ? &machine->ram : &machine->pad;
+}
 
 /* At most PIECE steps, by one call of the library. */
 struct outcome run_piece(struct machine *machine, uint64_t count);
@@ -40,8 +59,12 @@ bool was_run(struct outcome outcome);
 /* The library's answer in words, and the status that goes with it; what is trouble goes to stderr. */
 int print_answer(struct outcome outcome, const struct machine *machine);
 
-/* The word at a virtual address, if it lies in RAM. */
-bool fetch_word(const struct bytes *ram, uint32_t address, uint32_t *word);
+/* Where the word at a virtual address is, if loads and stores reach one there. */
+bool find_word(const struct machine *machine, uint32_t address, struct place *place);
+
+/* The word at a virtual address, if it lies in RAM: nothing is fetched from the pad. */
+bool fetch_word(const struct machine *machine, uint32_t address, uint32_t *word);
+bool in_pad(const struct machine *machine, uint32_t address);
 
 /* The instruction that the next step carries out, if its fetch is no exception. */
 bool next_instruction(const struct machine *machine, uint32_t *word);

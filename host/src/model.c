@@ -828,13 +828,34 @@ static bool user_mode(const struct model *m)
     return (m->sr & SR_KUC) != 0;
 }
 
-/* Segments 000, 100 and 101 reach RAM; all else is a bus error. */
+/* Segments 000, 100 and 101 reach RAM. */
 static bool translate(uint32_t virtual_address, size_t ram_length, uint32_t *physical_address)
 {
     uint32_t segment = virtual_address >> 29;
 
     *physical_address = virtual_address & 0x1FFFFFFF;
     return (segment == 0 || segment == 4 || segment == 5) && *physical_address < ram_length;
+}
+
+/* 02, Ticket 1: segments 000 and 100 reach the scratch pad; *place is counted from its first byte. */
+static bool translate_to_pad(uint32_t virtual_address, uint32_t *place)
+{
+    uint32_t segment = virtual_address >> 29, physical = virtual_address & 0x1FFFFFFF;
+
+    *place = physical - 0x1F800000;
+    return (segment == 0 || segment == 4) && physical >= 0x1F800000 && physical <= 0x1F8003FF;
+}
+
+/* The byte that a load or store reaches; a null pointer, a bus error, where there is none. */
+static uint8_t *data_byte(const struct model_memory *memory, uint32_t address)
+{
+    uint32_t place;
+
+    if (translate(address, memory->ram_length, &place))
+        return memory->ram + place;
+    if (translate_to_pad(address, &place))
+        return memory->pad + place;
+    return NULL;
 }
 
 /* An address error: not a multiple of the size, or bit 31 set in user mode. */
@@ -984,22 +1005,23 @@ static uint32_t access_size(uint32_t opcode)
     }
 }
 
-enum model_outcome model_step(struct model *m, uint8_t *ram, size_t ram_length)
+enum model_outcome model_step(struct model *m, const struct model_memory *memory)
 {
     uint32_t fetch_address, word, opcode, rs, rt, rd, shift, immediate, signed_immediate;
     uint32_t a, b; /* operands rs and rt, read before anything is written */
     uint32_t branch_target, link, target;
-    uint32_t sum, address, physical, value, old;
+    uint32_t sum, address, value, old;
+    uint8_t *byte, *bytes; /* the one that is addressed, and those of the word that it is in */
     uint32_t write_register = 0, write_value = 0; /* written in this step */
     uint32_t late_register = 0, late_value = 0; /* shown one instruction late */
     bool jump = false; /* a jump or branch, taken or not */
 
-    /* Fetch: AdEL, then IBE. */
+    /* Fetch, from RAM alone: AdEL, then IBE. */
     if (address_error(m, m->pc, 4))
         return take_address_error(m, MODEL_ADEL, m->pc);
-    if (!translate(m->pc, ram_length, &fetch_address))
+    if (!translate(m->pc, memory->ram_length, &fetch_address))
         return take_exception(m, MODEL_IBE, 0);
-    word = read_word(ram + fetch_address);
+    word = read_word(memory->ram + fetch_address);
 
     opcode = word >> 26;
     rs = word >> 21 & 31;
@@ -1155,19 +1177,21 @@ enum model_outcome model_step(struct model *m, uint8_t *ram, size_t ram_length)
         address = a + signed_immediate;
         if (address_error(m, address, access_size(opcode)))
             return take_address_error(m, MODEL_ADEL, address);
-        if (!translate(address, ram_length, &physical))
+        byte = data_byte(memory, address);
+        if (byte == NULL)
             return take_exception(m, MODEL_DBE, 0);
-        value = read_word(ram + (physical & ~3u));
+        bytes = byte - (address & 3);
+        value = read_word(bytes);
         /* LWL and LWR merge with a waiting value for the same register. */
         old = m->load_register == rt ? m->load_value : b;
         late_register = rt;
         switch (opcode) {
-        case 0x20: late_value = sign_extend_byte(value >> 8 * (physical & 3)); break; /* LB */
-        case 0x21: late_value = sign_extend_half(value >> 8 * (physical & 2)); break; /* LH */
+        case 0x20: late_value = sign_extend_byte(value >> 8 * (address & 3)); break; /* LB */
+        case 0x21: late_value = sign_extend_half(value >> 8 * (address & 2)); break; /* LH */
         case 0x22: late_value = merge_left(value, old, address); break; /* LWL */
         case 0x23: late_value = value; break; /* LW */
-        case 0x24: late_value = value >> 8 * (physical & 3) & 0xFF; break; /* LBU */
-        case 0x25: late_value = value >> 8 * (physical & 2) & 0xFFFF; break; /* LHU */
+        case 0x24: late_value = value >> 8 * (address & 3) & 0xFF; break; /* LBU */
+        case 0x25: late_value = value >> 8 * (address & 2) & 0xFFFF; break; /* LHU */
         case 0x26: late_value = merge_right(value, old, address); break; /* LWR */
         default: late_register = 0; model_cop2_write(m, rt, value); break; /* LWC2 */
         }
@@ -1181,16 +1205,18 @@ enum model_outcome model_step(struct model *m, uint8_t *ram, size_t ram_length)
         address = a + signed_immediate;
         if (address_error(m, address, access_size(opcode)))
             return take_address_error(m, MODEL_ADES, address);
-        if (!translate(address, ram_length, &physical))
+        byte = data_byte(memory, address);
+        if (byte == NULL)
             return take_exception(m, MODEL_DBE, 0);
-        value = read_word(ram + (physical & ~3u));
+        bytes = byte - (address & 3);
+        value = read_word(bytes);
         switch (opcode) {
-        case 0x28: ram[physical] = (uint8_t)b; break; /* SB */
-        case 0x29: ram[physical] = (uint8_t)b; ram[physical + 1] = (uint8_t)(b >> 8); break; /* SH */
-        case 0x2A: write_word(ram + (physical & ~3u), store_left(value, b, address)); break; /* SWL */
-        case 0x2B: write_word(ram + physical, b); break; /* SW */
-        case 0x2E: write_word(ram + (physical & ~3u), store_right(value, b, address)); break; /* SWR */
-        default: write_word(ram + physical, model_cop2_read(m, rt)); break; /* SWC2 */
+        case 0x28: byte[0] = (uint8_t)b; break; /* SB */
+        case 0x29: byte[0] = (uint8_t)b; byte[1] = (uint8_t)(b >> 8); break; /* SH */
+        case 0x2A: write_word(bytes, store_left(value, b, address)); break; /* SWL */
+        case 0x2B: write_word(bytes, b); break; /* SW */
+        case 0x2E: write_word(bytes, store_right(value, b, address)); break; /* SWR */
+        default: write_word(bytes, model_cop2_read(m, rt)); break; /* SWC2 */
         }
         break;
 
@@ -1224,9 +1250,14 @@ static bool bad_ram_length(size_t ram_length)
     return ram_length % 4 != 0 || ram_length < 4 || ram_length > MODEL_RAM_MAXIMUM;
 }
 
+static bool bad_pad_length(size_t pad_length)
+{
+    return pad_length != MODEL_PAD_BYTES;
+}
+
 /* The first refusal that applies; MODEL_DONE where none does, with the machine loaded. */
 static enum model_code refusal(struct model *machine, const uint8_t *image, size_t image_length, size_t ram_length,
-                               uint64_t count)
+                               size_t pad_length, uint64_t count)
 {
     if (image_length != MODEL_IMAGE_BYTES)
         return MODEL_IMAGE_LENGTH;
@@ -1234,6 +1265,8 @@ static enum model_code refusal(struct model *machine, const uint8_t *image, size
         return MODEL_IMAGE_FORM;
     if (bad_ram_length(ram_length))
         return MODEL_RAM_LENGTH;
+    if (bad_pad_length(pad_length))
+        return MODEL_PAD_LENGTH;
     if (count > MODEL_COUNT_MAXIMUM)
         return MODEL_COUNT;
     return MODEL_DONE;
@@ -1242,10 +1275,12 @@ static enum model_code refusal(struct model *machine, const uint8_t *image, size
 /* The run, ended after the first step that brings up a bit of mask in FLAG. With mask 0 no step does. It is made part of its
  * callers, so that the run, beside which the library's speed is measured, has no test of FLAG. */
 __attribute__((always_inline)) static inline uint64_t run_until(uint8_t *image, size_t image_length, uint8_t *ram,
-                                                                size_t ram_length, uint64_t count, uint32_t mask)
+                                                                size_t ram_length, uint8_t *pad, size_t pad_length,
+                                                                uint64_t count, uint32_t mask)
 {
+    const struct model_memory memory = {ram, ram_length, pad};
     struct model machine;
-    enum model_code code = refusal(&machine, image, image_length, ram_length, count);
+    enum model_code code = refusal(&machine, image, image_length, ram_length, pad_length, count);
     uint64_t steps = 0;
 
     if (code != MODEL_DONE)
@@ -1253,7 +1288,7 @@ __attribute__((always_inline)) static inline uint64_t run_until(uint8_t *image, 
     while (code == MODEL_DONE && steps < count) {
         uint32_t before = machine.cop2[FLAG] & mask;
 
-        if (model_step(&machine, ram, ram_length) == MODEL_STOP) {
+        if (model_step(&machine, &memory) == MODEL_STOP) {
             code = MODEL_UNLISTED;
             break;
         }
@@ -1265,30 +1300,43 @@ __attribute__((always_inline)) static inline uint64_t run_until(uint8_t *image, 
     return answer(code, steps);
 }
 
-uint64_t model_run(uint8_t *image, size_t image_length, uint8_t *ram, size_t ram_length, uint64_t count)
+uint64_t model_run(uint8_t *image, size_t image_length, uint8_t *ram, size_t ram_length, uint8_t *pad, size_t pad_length,
+                   uint64_t count)
 {
-    return run_until(image, image_length, ram, ram_length, count, 0);
+    return run_until(image, image_length, ram, ram_length, pad, pad_length, count, 0);
 }
 
-uint64_t model_find_flag(uint8_t *image, size_t image_length, uint8_t *ram, size_t ram_length, uint64_t count,
-                         uint32_t mask)
+uint64_t model_find_flag(uint8_t *image, size_t image_length, uint8_t *ram, size_t ram_length, uint8_t *pad,
+                         size_t pad_length, uint64_t count, uint32_t mask)
 {
-    return run_until(image, image_length, ram, ram_length, count, mask);
+    return run_until(image, image_length, ram, ram_length, pad, pad_length, count, mask);
 }
 
-/* ---- The RAM window (01, The run and its numbers) ------------------------- */
+/* ---- The window (01, The run and its numbers; 02, Ticket 1) ---------------- */
 
-/* RAM is shorter than a segment, so a range that starts in RAM is in RAM only up to RAM's end. */
-uint64_t model_window(const uint8_t *ram, size_t ram_length, uint32_t address, uint64_t length)
+#define IN_PAD ((uint64_t)1 << 63)
+
+/* Both memories are shorter than a segment, so a range that starts in one is in it only up to its end. */
+static uint64_t part_of(uint64_t buffer, size_t size, uint32_t place, uint64_t length)
+{
+    if (length > size - place)
+        return 0;
+    return buffer | (uint64_t)place << 32 | length;
+}
+
+uint64_t model_window(const uint8_t *ram, size_t ram_length, const uint8_t *pad, size_t pad_length, uint32_t address,
+                      uint64_t length)
 {
     uint32_t place;
 
-    (void)ram; /* named by the interface, and not read */
+    (void)ram, (void)pad; /* named by the interface, and not read */
     if (bad_ram_length(ram_length))
         return 0;
-    if (!translate(address, ram_length, &place))
+    if (bad_pad_length(pad_length))
         return 0;
-    if (length > ram_length - place)
-        return 0;
-    return (uint64_t)place << 32 | length;
+    if (translate(address, ram_length, &place))
+        return part_of(0, ram_length, place, length);
+    if (translate_to_pad(address, &place))
+        return part_of(IN_PAD, MODEL_PAD_BYTES, place, length);
+    return 0;
 }

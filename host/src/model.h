@@ -16,10 +16,11 @@
 #define MODEL_IMAGE_WORDS 108
 #define MODEL_IMAGE_BYTES 432
 #define MODEL_RAM_MAXIMUM 2097152
+#define MODEL_PAD_BYTES 1024
 #define MODEL_COUNT_MAXIMUM 1000000
 #define MODEL_CODE_UNIT 1048576
 
-/* 01, The run and its numbers: the codes of an answer. */
+/* 01, The run and its numbers, and 02: the codes of an answer. */
 enum model_code {
     MODEL_DONE = 0,
     MODEL_IMAGE_LENGTH = 1,
@@ -27,22 +28,26 @@ enum model_code {
     MODEL_RAM_LENGTH = 3,
     MODEL_COUNT = 4,
     MODEL_UNLISTED = 5,
+    MODEL_PAD_LENGTH = 6,
     MODEL_SPACE = 8, /* of model_causes (causes.h) alone */
     MODEL_FLAG_UP = 16 /* of model_find_flag alone */
 };
 
 /* Answers code * 1048576 + steps completed. */
-uint64_t model_run(uint8_t *image, size_t image_length, uint8_t *ram, size_t ram_length, uint64_t count);
+uint64_t model_run(uint8_t *image, size_t image_length, uint8_t *ram, size_t ram_length, uint8_t *pad, size_t pad_length,
+                   uint64_t count);
 
 /* The run, ended after the first step that leaves a bit of mask set in FLAG where none was set before it. */
-uint64_t model_find_flag(uint8_t *image, size_t image_length, uint8_t *ram, size_t ram_length, uint64_t count,
-                         uint32_t mask);
+uint64_t model_find_flag(uint8_t *image, size_t image_length, uint8_t *ram, size_t ram_length, uint8_t *pad,
+                         size_t pad_length, uint64_t count, uint32_t mask);
 
 /*
- * The RAM window: the part of RAM that an address and a length name, as place * 2^32 + length. The length is 0 when
- * the part is empty; the place is then 0, but for length 0 at an address in RAM it is that address's.
+ * The window: the part of RAM, or of the pad, that an address and a length name, as place * 2^32 + length, with 2^63
+ * added in the pad. The length is 0 when the part is empty; the whole is then 0, but for length 0 at an address in RAM
+ * or in the pad it is that address's place.
  */
-uint64_t model_window(const uint8_t *ram, size_t ram_length, uint32_t address, uint64_t length);
+uint64_t model_window(const uint8_t *ram, size_t ram_length, const uint8_t *pad, size_t pad_length, uint32_t address,
+                      uint64_t length);
 
 /* 01, The machine image: words 0..107 as fields. */
 struct model {
@@ -75,8 +80,14 @@ enum model_outcome {
 bool model_load(struct model *machine, const uint8_t image[MODEL_IMAGE_BYTES]);
 void model_store(const struct model *machine, uint8_t image[MODEL_IMAGE_BYTES]);
 
-/* ram_length has to be one that code 3 does not refuse. */
-enum model_outcome model_step(struct model *machine, uint8_t *ram, size_t ram_length);
+/* The memories that a machine is lent: RAM of a length that code 3 does not refuse, and a pad of MODEL_PAD_BYTES. */
+struct model_memory {
+    uint8_t *ram;
+    size_t ram_length;
+    uint8_t *pad;
+};
+
+enum model_outcome model_step(struct model *machine, const struct model_memory *memory);
 
 uint32_t model_cop2_read(const struct model *machine, unsigned number);
 void model_cop2_write(struct model *machine, unsigned number, uint32_t word);

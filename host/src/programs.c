@@ -67,6 +67,8 @@ static const struct {
 
 static uint8_t image[FLISKADEE_IMAGE_BYTES];
 static uint8_t ram[FLISKADEE_MOST_RAM];
+static uint8_t pad[FLISKADEE_PAD_BYTES];
+static const struct fliskadee_lent machine = {image, sizeof image, ram, sizeof ram, pad, sizeof pad};
 static uint32_t expected[RESULT_WORDS + 1];
 
 static size_t ram_word(uint32_t address)
@@ -77,6 +79,7 @@ static size_t ram_word(uint32_t address)
 static void load(const struct program *program)
 {
     memset(ram, 0, sizeof ram);
+    memset(pad, 0, sizeof pad);
     fliskadee_set_word(ram, ram_word(VECTOR), WAIT_HERE);
     for (size_t i = 0; i < program->length; i++)
         fliskadee_set_word(ram, ram_word(ENTRY) + i, program->words[i]);
@@ -96,7 +99,7 @@ static bool run_to_end(const char *name, int *pieces)
 {
     int piece = 0;
     for (; piece < MOST_PIECES && !has_ended(); piece++) {
-        uint64_t answer = fliskadee_run(image, sizeof image, ram, sizeof ram, PIECE);
+        uint64_t answer = fliskadee_run_lent(&machine, PIECE);
         if (answer != PIECE) {
             printf("%s: failed, the library answers code %u after %u steps of piece %d, PC %08X\n", name,
                    FLISKADEE_CODE(answer), (unsigned)FLISKADEE_STEPS(answer), piece, (unsigned)fliskadee_get_word(image, FLISKADEE_WORD_PC));

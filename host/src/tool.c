@@ -18,13 +18,20 @@
 #include "show.h"
 #include "why.h"
 
+static bool has_length(const char *path, const struct bytes *bytes, const char *what, size_t length)
+{
+    if (bytes->length == length)
+        return true;
+    complain("%s has %zu bytes; %s has %zu.", path, bytes->length, what, length);
+    return false;
+}
+
 static bool read_image(const char *path, struct bytes *image)
 {
     if (!read_file(path, FILE_MOST, image))
         return false;
-    if (image->length == FLISKADEE_IMAGE_BYTES)
+    if (has_length(path, image, "an image", FLISKADEE_IMAGE_BYTES))
         return true;
-    complain("%s has %zu bytes; an image has %d.", path, image->length, FLISKADEE_IMAGE_BYTES);
     free(image->data);
     image->data = NULL;
     return false;
@@ -62,6 +69,27 @@ static bool take_option(const char *name, const char *what, const char **value, 
     }
     *value = equals != NULL ? equals + 1 : arguments[++*i];
     return true;
+}
+
+/* Takes the pad of the next of a command's machines. */
+static bool take_pad(const char **pads, int machines, int count, char **arguments, int *i)
+{
+    int taken = 0;
+    while (taken < machines && pads[taken] != NULL)
+        taken++;
+    if (taken < machines)
+        return take_option("--pad", "a file name", &pads[taken], count, arguments, i);
+    complain("--pad is given more than %s.", machines == 1 ? "once" : "twice");
+    return false;
+}
+
+/* Where there are two machines, one pad alone could be that of either. */
+static bool have_pads(const char *command, const char *const pads[2])
+{
+    if ((pads[0] == NULL) == (pads[1] == NULL))
+        return true;
+    complain("%s has two machines: give --pad twice, first for the first and then for the second, or not at all.", command);
+    return false;
 }
 
 static bool take_positional(const char *command, const char **positional, int most, int *taken, const char *argument)
@@ -104,8 +132,10 @@ static struct outcome run_steps(struct machine *machine, uint64_t count)
 
 struct run_arguments {
     const char *positional[3];
+    const char *pad;
     const char *image_out;
     const char *ram_out;
+    const char *pad_out;
     bool quiet;
 };
 
@@ -119,6 +149,10 @@ static bool take_run_arguments(struct run_arguments *taken, int count, char **ar
             good = take_option("--image-out", "a file name", &taken->image_out, count, arguments, &i);
         else if (is_option(arguments[i], "--ram-out"))
             good = take_option("--ram-out", "a file name", &taken->ram_out, count, arguments, &i);
+        else if (is_option(arguments[i], "--pad-out"))
+            good = take_option("--pad-out", "a file name", &taken->pad_out, count, arguments, &i);
+        else if (is_option(arguments[i], "--pad"))
+            good = take_pad(&taken->pad, 1, count, arguments, &i);
         else if (strcmp(arguments[i], "--quiet") == 0)
             taken->quiet = true;
         else
@@ -180,12 +214,14 @@ static int command_run(int count, char **arguments)
     if (!take_run_arguments(&taken, count, arguments)
         || !parse_argument(taken.positional[2], "N", 0, UINT64_MAX, &steps))
         return STATUS_TROUBLE;
-    const struct output outputs[] = {{taken.image_out, &machine.image}, {taken.ram_out, &machine.ram}};
-    if (!check_outputs(outputs, 2) || !read_machine(&machine, taken.positional[0], taken.positional[1]))
+    const struct output outputs[] = {
+        {taken.image_out, &machine.image}, {taken.ram_out, &machine.ram}, {taken.pad_out, &machine.pad}};
+    enum { OUTPUTS = sizeof outputs / sizeof outputs[0] };
+    if (!check_outputs(outputs, OUTPUTS) || !read_machine(&machine, taken.positional[0], taken.positional[1], taken.pad))
         return STATUS_TROUBLE;
     struct outcome outcome = run_counting(&machine, steps, &exceptions);
     /* The files come first, as a reader of the report may end early. */
-    bool written = !was_run(outcome) || write_outputs(outputs, 2);
+    bool written = !was_run(outcome) || write_outputs(outputs, OUTPUTS);
     int status = STATUS_FINE;
     if (!taken.quiet || outcome.code != FLISKADEE_DONE)
         status = print_answer(outcome, &machine);
@@ -217,11 +253,15 @@ static void tell_wrong_word(void *context, unsigned word, const char *why)
     printf("word %u (%s) is %08X: %s\n", word, word_name(word), (unsigned)fliskadee_get_word(image, word), why);
 }
 
-/* What the library itself says of an image; the RAM only has to be of good length. */
+/* Memory for calls that are about something else: it only has to be of good length. */
+static uint8_t some_ram[RAM_LEAST];
+static uint8_t some_pad[FLISKADEE_PAD_BYTES];
+
+/* What the library itself says of an image. */
 static unsigned library_code(const struct bytes *image)
 {
-    uint8_t ram[RAM_LEAST] = {0};
-    return (unsigned)(fliskadee_run(image->data, image->length, ram, sizeof ram, 0) >> 20);
+    return FLISKADEE_CODE(
+        fliskadee_run(image->data, image->length, some_ram, sizeof some_ram, some_pad, sizeof some_pad, 0));
 }
 
 static int command_check(int count, char **arguments)
@@ -253,62 +293,56 @@ static int command_check(int count, char **arguments)
     return expected == FLISKADEE_DONE ? STATUS_FINE : STATUS_FINDING;
 }
 
-static int diff_images(char **arguments)
+static int diff_images(const char *const *files)
 {
     struct bytes images[2];
-    if (!read_image(arguments[0], &images[0]))
+    if (!read_image(files[0], &images[0]))
         return STATUS_TROUBLE;
-    if (!read_image(arguments[1], &images[1])) {
+    if (!read_image(files[1], &images[1])) {
         free(images[0].data);
         return STATUS_TROUBLE;
     }
     uint64_t differing = compare_images(images[0].data, images[1].data);
     if (differing == 0)
-        printf("The images are equal. RAM was not looked at.\n");
+        printf("The images are equal.");
     else
-        printf("%" PRIu64 " register%s. In each pair above the first line is %s, the second %s. RAM was not looked at.\n",
-               differing, differing == 1 ? " differs" : "s differ", arguments[0], arguments[1]);
+        printf("%" PRIu64 " register%s. In each pair above the first line is %s, the second %s.", differing,
+               differing == 1 ? " differs" : "s differ", files[0], files[1]);
+    printf(" RAM and pad were not looked at.\n");
     free(images[0].data);
     free(images[1].data);
     return differing == 0 ? STATUS_FINE : STATUS_FINDING;
 }
 
-static bool read_two_machines(struct machine machines[2], char **arguments)
+/* The files are IMAGE RAM IMAGE RAM. */
+static bool read_two_machines(struct machine machines[2], const char *const *files, const char *const pads[2])
 {
-    if (!read_machine(&machines[0], arguments[0], arguments[1]))
+    if (!read_machine(&machines[0], files[0], files[1], pads[0]))
         return false;
-    if (read_machine(&machines[1], arguments[2], arguments[3]))
+    if (read_machine(&machines[1], files[2], files[3], pads[1]))
         return true;
     free_machine(&machines[0]);
     return false;
 }
 
-static bool are_images(const struct machine machines[2], char **arguments)
-{
-    for (unsigned i = 0; i < 2; i++) {
-        if (machines[i].image.length == FLISKADEE_IMAGE_BYTES)
-            continue;
-        complain("%s has %zu bytes; an image has %d.", arguments[2 * i], machines[i].image.length, FLISKADEE_IMAGE_BYTES);
-        return false;
-    }
-    return true;
-}
-
-static int diff_machines(char **arguments)
+static int diff_machines(const char *const *files, const char *const pads[2])
 {
     struct machine machines[2];
     int status = STATUS_TROUBLE;
-    if (!read_two_machines(machines, arguments))
+    bool good = true;
+    if (!read_two_machines(machines, files, pads))
         return STATUS_TROUBLE;
-    if (are_images(machines, arguments)) {
+    for (unsigned i = 0; good && i < 2; i++)
+        good = has_length(files[2 * i], &machines[i].image, "an image", FLISKADEE_IMAGE_BYTES)
+               && has_length(pads[i], &machines[i].pad, "a pad", FLISKADEE_PAD_BYTES);
+    if (good) {
         uint64_t registers = compare_images(machines[0].image.data, machines[1].image.data);
-        uint64_t words = compare_ram(&machines[0].ram, &machines[1].ram);
+        uint64_t words = compare_memories(machines);
         if (registers + words == 0)
-            printf("The machines are equal: registers and RAM.\n");
+            printf("The machines are equal: registers, RAM and pad.\n");
         else
             printf("%" PRIu64 " register%s. In each pair above the first is of %s and %s, the second of %s and %s.\n",
-                   registers, registers == 1 ? " differs" : "s differ", arguments[0], arguments[1], arguments[2],
-                   arguments[3]);
+                   registers, registers == 1 ? " differs" : "s differ", files[0], files[1], files[2], files[3]);
         status = registers + words == 0 ? STATUS_FINE : STATUS_FINDING;
     }
     free_machine(&machines[0]);
@@ -318,11 +352,20 @@ static int diff_machines(char **arguments)
 
 static int command_diff(int count, char **arguments)
 {
-    if (count == 2)
-        return diff_images(arguments);
-    if (count == 4)
-        return diff_machines(arguments);
-    complain("diff takes IMAGE IMAGE, or IMAGE RAM IMAGE RAM; see fliskadee diff --help.");
+    const char *files[4];
+    const char *pads[2] = {NULL, NULL};
+    int taken = 0;
+    for (int i = 0; i < count; i++) {
+        bool good = is_option(arguments[i], "--pad") ? take_pad(pads, 2, count, arguments, &i)
+                                                     : take_positional("diff", files, 4, &taken, arguments[i]);
+        if (!good)
+            return STATUS_TROUBLE;
+    }
+    if (taken == 2 && pads[0] == NULL)
+        return diff_images(files);
+    if (taken == 4)
+        return have_pads("diff", pads) ? diff_machines(files, pads) : STATUS_TROUBLE;
+    complain("diff takes IMAGE IMAGE, or IMAGE RAM IMAGE RAM with their pads or without; see fliskadee diff --help.");
     return STATUS_TROUBLE;
 }
 
@@ -333,6 +376,7 @@ static int command_flags(int count, char **arguments)
     const char *positional[3];
     int positionals = 0;
     const char *bit_text = NULL;
+    const char *pad = NULL;
     bool last = false;
     uint64_t bit = 0;
     uint64_t steps;
@@ -343,6 +387,9 @@ static int command_flags(int count, char **arguments)
         } else if (is_option(arguments[i], "--bit")) {
             if (!take_option("--bit", "a number", &bit_text, count, arguments, &i))
                 return STATUS_TROUBLE;
+        } else if (is_option(arguments[i], "--pad")) {
+            if (!take_pad(&pad, 1, count, arguments, &i))
+                return STATUS_TROUBLE;
         } else if (!take_positional("flags", positional, 3, &positionals, arguments[i])) {
             return STATUS_TROUBLE;
         }
@@ -350,7 +397,7 @@ static int command_flags(int count, char **arguments)
     if (!have_positionals("flags", "IMAGE RAM N", 3, positionals)
         || (bit_text != NULL && !parse_argument(bit_text, "B", 12, 31, &bit))
         || !parse_argument(positional[2], "N", 0, UINT64_MAX, &steps)
-        || !read_machine(&machine, positional[0], positional[1]))
+        || !read_machine(&machine, positional[0], positional[1], pad))
         return STATUS_TROUBLE;
     int status = follow_flags(&machine, steps, bit_text == NULL ? -1 : (int)bit, last);
     free_machine(&machine);
@@ -360,25 +407,26 @@ static int command_flags(int count, char **arguments)
 static int command_part(int count, char **arguments)
 {
     const char *positional[5];
-    char *files[4];
+    const char *pads[2] = {NULL, NULL};
     int positionals = 0;
     struct part_options options = {false, false};
     struct machine machines[2];
     uint64_t steps;
     for (int i = 0; i < count; i++) {
+        bool good = true;
         if (strcmp(arguments[i], "--flag") == 0)
             options.flag_alone = true;
         else if (strcmp(arguments[i], "--coarse") == 0)
             options.coarse = true;
-        else if (!take_positional("part", positional, 5, &positionals, arguments[i]))
+        else if (is_option(arguments[i], "--pad"))
+            good = take_pad(pads, 2, count, arguments, &i);
+        else
+            good = take_positional("part", positional, 5, &positionals, arguments[i]);
+        if (!good)
             return STATUS_TROUBLE;
     }
-    if (!have_positionals("part", "IMAGE RAM IMAGE RAM N", 5, positionals)
-        || !parse_argument(positional[4], "N", 0, UINT64_MAX, &steps))
-        return STATUS_TROUBLE;
-    for (int i = 0; i < 4; i++)
-        files[i] = (char *)positional[i];
-    if (!read_two_machines(machines, files))
+    if (!have_positionals("part", "IMAGE RAM IMAGE RAM N", 5, positionals) || !have_pads("part", pads)
+        || !parse_argument(positional[4], "N", 0, UINT64_MAX, &steps) || !read_two_machines(machines, positional, pads))
         return STATUS_TROUBLE;
     int status = follow_parting(machines, steps, options);
     free_machine(&machines[0]);
@@ -394,7 +442,7 @@ static void print_found(unsigned bit, uint64_t step, const struct machine *befor
     uint32_t pc = fliskadee_get_word(before->image.data, FLISKADEE_WORD_PC);
     uint32_t word = 0;
     struct causes causes;
-    bool fetched = fetch_word(&before->ram, pc, &word);
+    bool fetched = fetch_word(before, pc, &word);
     printf("FLAG bit %u came up at step %" PRIu64 ".\n", bit, step);
     printf("  bit %u: %s\n\n", bit, flag_meaning(bit));
     print_instruction(before, "instruction ");
@@ -439,8 +487,7 @@ static bool confirm_found(const struct machine *before, const struct machine *af
     if (!copy_machine(&again, before))
         return false;
     struct outcome step = run_piece(&again, 1);
-    bool same = step.code == FLISKADEE_DONE && memcmp(again.image.data, after->image.data, after->image.length) == 0
-                && memcmp(again.ram.data, after->ram.data, after->ram.length) == 0;
+    bool same = step.code == FLISKADEE_DONE && machines_equal(&again, after);
     if (!same)
         complain("DISAGREEMENT: the step that was found, run alone, leaves another machine than the search; "
                  "please report it.");
@@ -488,13 +535,23 @@ static int report_search(unsigned bit, struct outcome outcome, const struct mach
 
 static int command_find_flag(int count, char **arguments)
 {
+    const char *positional[4];
+    const char *pad = NULL;
+    int positionals = 0;
     struct machine machine;
     struct machine before;
     uint64_t bit;
     uint64_t steps;
-    (void)count;
-    if (!parse_argument(arguments[0], "BIT", 12, 31, &bit) || !parse_argument(arguments[3], "N", 0, UINT64_MAX, &steps)
-        || !read_machine(&machine, arguments[1], arguments[2]))
+    for (int i = 0; i < count; i++) {
+        bool good = is_option(arguments[i], "--pad")
+                        ? take_pad(&pad, 1, count, arguments, &i)
+                        : take_positional("find-flag", positional, 4, &positionals, arguments[i]);
+        if (!good)
+            return STATUS_TROUBLE;
+    }
+    if (!have_positionals("find-flag", "BIT IMAGE RAM N", 4, positionals)
+        || !parse_argument(positional[0], "BIT", 12, 31, &bit) || !parse_argument(positional[3], "N", 0, UINT64_MAX, &steps)
+        || !read_machine(&machine, positional[1], positional[2], pad))
         return STATUS_TROUBLE;
     if (!copy_machine(&before, &machine)) {
         free_machine(&machine);
@@ -556,11 +613,12 @@ static int why_word(const char *path, const char *text)
     return status;
 }
 
-static int print_no_fetch(const uint8_t *image)
+static int print_no_fetch(const struct machine *machine)
 {
-    uint32_t pc = fliskadee_get_word(image, FLISKADEE_WORD_PC);
-    bool user = (fliskadee_get_word(image, FLISKADEE_WORD_SR) >> 1 & 1) != 0;
-    const char *reason = "it is not in RAM, and the step takes IBE";
+    uint32_t pc = fliskadee_get_word(machine->image.data, FLISKADEE_WORD_PC);
+    bool user = (fliskadee_get_word(machine->image.data, FLISKADEE_WORD_SR) >> 1 & 1) != 0;
+    const char *reason = in_pad(machine, pc) ? "it is in the pad, not in RAM, and the step takes IBE"
+                                             : "it is not in RAM, and the step takes IBE";
     if (pc % 4 != 0)
         reason = "it is no multiple of 4, and the step takes AdEL";
     else if (user && pc >> 31 != 0)
@@ -576,7 +634,7 @@ static int why_next(struct machine *machine)
     if (!was_run(outcome))
         return print_answer(outcome, machine);
     if (!next_instruction(machine, &word))
-        return print_no_fetch(machine->image.data);
+        return print_no_fetch(machine);
     print_instruction(machine, "");
     if (!is_command(word)) {
         printf("The instruction at PC is no GTE command. To ask about a later one, run to just before it, or give its word.\n");
@@ -607,7 +665,8 @@ static int command_why(int count, char **arguments)
         complain("why takes IMAGE WORD, or IMAGE --ram RAM for the command at PC; see fliskadee why --help.");
         return STATUS_TROUBLE;
     }
-    if (!read_machine(&machine, positional[0], ram))
+    /* Nothing is fetched from the pad, so its words do not matter. */
+    if (!read_machine(&machine, positional[0], ram, NULL))
         return STATUS_TROUBLE;
     int status = why_next(&machine);
     free_machine(&machine);
@@ -631,13 +690,13 @@ static int command_disassemble(int count, char **arguments)
     }
     if (!read_file(arguments[0], FILE_MOST, &ram))
         return STATUS_TROUBLE;
-    uint64_t window = fliskadee_window(ram.data, ram.length, (uint32_t)address, 4 * words);
+    uint64_t part = fliskadee_window(ram.data, ram.length, some_pad, sizeof some_pad, (uint32_t)address, 4 * words);
     if (ram.length % 4 != 0 || ram.length < RAM_LEAST || ram.length > FLISKADEE_MOST_RAM) {
         complain("%s has %zu bytes; a RAM has a multiple of 4 from %d to %d.", arguments[0], ram.length, RAM_LEAST, FLISKADEE_MOST_RAM);
         free(ram.data);
         return STATUS_TROUBLE;
     }
-    if ((window & 0xFFFFFFFF) == 0) {
+    if (FLISKADEE_WINDOW_LENGTH(part) == 0 || FLISKADEE_WINDOW_IN_PAD(part)) {
         complain("%" PRIu64 " words at %08X are not all in this RAM of %zu bytes.", words, (unsigned)address,
                  ram.length);
         free(ram.data);
@@ -645,7 +704,7 @@ static int command_disassemble(int count, char **arguments)
     }
     for (uint64_t i = 0; i < words; i++) {
         uint32_t pc = (uint32_t)(address + 4 * i);
-        uint32_t word = fliskadee_get_word(ram.data + (window >> 32), i);
+        uint32_t word = fliskadee_get_word(ram.data + FLISKADEE_WINDOW_PLACE(part), i);
         char text[128];
         disassemble(word, pc, text, sizeof text);
         printf("%08X  %08X  %s\n", (unsigned)pc, (unsigned)word, text);
@@ -754,13 +813,15 @@ static int command_make_image(int count, char **arguments)
     return write_made(path, replace, &bytes);
 }
 
-/* ---- make-ram ---- */
+/* ---- make-ram, make-pad ---- */
 
-static bool store_from_argument(const struct bytes *ram, const char *argument)
+static bool store_from_argument(const struct machine *machine, enum memory made, const char *argument)
 {
     char address_text[32];
     uint64_t address;
     uint64_t word;
+    struct place place;
+    const struct bytes *bytes = memory_of(machine, made);
     const char *equals = strchr(argument, '=');
     if (equals == NULL || (size_t)(equals - argument) >= sizeof address_text) {
         complain("\"%s\" is not of the form ADDRESS=WORD.", argument);
@@ -771,56 +832,66 @@ static bool store_from_argument(const struct bytes *ram, const char *argument)
     if (!parse_argument(address_text, "ADDRESS", 0, UINT32_MAX, &address)
         || !parse_argument(equals + 1, "WORD", 0, UINT32_MAX, &word))
         return false;
-    uint64_t window = fliskadee_window(ram->data, ram->length, (uint32_t)address, 4);
-    if (address % 4 != 0 || (window & 0xFFFFFFFF) != 4) {
-        complain("a word at %s is not in this RAM of %zu bytes, or not at a multiple of 4.", address_text, ram->length);
+    if (address % 4 != 0 || !find_word(machine, (uint32_t)address, &place) || place.memory != made) {
+        complain("a word at %s is not in this %s of %zu bytes, or not at a multiple of 4.", address_text,
+                 made == MEMORY_RAM ? "RAM" : "pad", bytes->length);
         return false;
     }
-    fliskadee_set_word(ram->data + (window >> 32), 0, (uint32_t)word);
+    fliskadee_set_word(bytes->data + place.offset, 0, (uint32_t)word);
     return true;
 }
 
-static int make_ram(const char *path, bool replace, struct bytes *ram, int count, char **arguments)
+static bool parse_ram_length(const char *text, uint64_t *length)
 {
-    for (int i = 0; i < count; i++)
-        if (strncmp(arguments[i], "--", 2) != 0 && !store_from_argument(ram, arguments[i]))
+    if (!parse_argument(text, "BYTES", RAM_LEAST, FLISKADEE_MOST_RAM, length))
+        return false;
+    if (*length % 4 == 0)
+        return true;
+    complain("BYTES must be a multiple of 4, not %s.", text);
+    return false;
+}
+
+/* Takes the file's name, for a RAM its length too, and then the words. The other memory of the machine only has to be of good
+   length. */
+static int make_memory(const char *command, enum memory made, int count, char **arguments)
+{
+    static uint8_t ram[FLISKADEE_MOST_RAM];
+    static uint8_t pad[FLISKADEE_PAD_BYTES];
+    const char *positional[2] = {NULL, NULL};
+    int wanted = made == MEMORY_RAM ? 2 : 1;
+    int positionals = 0;
+    int stores = count;
+    bool replace = false;
+    uint64_t length = RAM_LEAST;
+    for (int i = 0; i < count; i++) {
+        if (strcmp(arguments[i], "--replace") == 0)
+            replace = true;
+        else if (!take_positional(command, positional, wanted, &positionals, arguments[i]))
             return STATUS_TROUBLE;
-    return write_made(path, replace, ram);
+        if (positionals == wanted && stores == count)
+            stores = i + 1;
+    }
+    if (positionals < wanted) {
+        complain("%s takes %s; see fliskadee %s --help.", command, made == MEMORY_RAM ? "FILE BYTES" : "FILE", command);
+        return STATUS_TROUBLE;
+    }
+    if (made == MEMORY_RAM && !parse_ram_length(positional[1], &length))
+        return STATUS_TROUBLE;
+    const struct machine machine = {.ram = {ram, (size_t)length}, .pad = {pad, sizeof pad}};
+    for (int i = stores; i < count; i++)
+        if (strncmp(arguments[i], "--", 2) != 0 && !store_from_argument(&machine, made, arguments[i]))
+            return STATUS_TROUBLE;
+    return write_made(positional[0], replace, memory_of(&machine, made));
 }
 
 static int command_make_ram(int count, char **arguments)
 {
-    const char *positional[2] = {NULL, NULL};
-    int positionals = 0;
-    int stores = count;
-    bool replace = false;
-    uint64_t length;
-    for (int i = 0; i < count; i++) {
-        if (strcmp(arguments[i], "--replace") == 0)
-            replace = true;
-        else if (!take_positional("make-ram", positional, 2, &positionals, arguments[i]))
-            return STATUS_TROUBLE;
-        if (positionals == 2 && stores == count)
-            stores = i + 1;
-    }
-    if (positionals < 2) {
-        complain("make-ram takes FILE BYTES; see fliskadee make-ram --help.");
-        return STATUS_TROUBLE;
-    }
-    if (!parse_argument(positional[1], "BYTES", RAM_LEAST, FLISKADEE_MOST_RAM, &length))
-        return STATUS_TROUBLE;
-    if (length % 4 != 0) {
-        complain("BYTES must be a multiple of 4, not %s.", positional[1]);
-        return STATUS_TROUBLE;
-    }
-    struct bytes ram = {calloc((size_t)length, 1), (size_t)length};
-    if (ram.data == NULL) {
-        complain("there is not enough memory.");
-        return STATUS_TROUBLE;
-    }
-    int status = make_ram(positional[0], replace, &ram, count - stores, arguments + stores);
-    free(ram.data);
-    return status;
+    return make_memory("make-ram", MEMORY_RAM, count, arguments);
+}
+
+static int command_make_pad(int count, char **arguments)
+{
+    return make_memory("make-pad", MEMORY_PAD, count, arguments);
 }
 
 /* ---- Commands ---- */
@@ -834,14 +905,21 @@ struct command {
     const char *help;
 };
 
+#define PAD_HELP "The scratch pad is zeros, or with --pad the file of 1024 bytes that is named.\n"
+#define PADS_HELP \
+    "Both scratch pads are zeros; or --pad is given twice, with a file of 1024 bytes for the first machine and then\n" \
+    "with one for the second.\n"
+
 static const struct command commands[] = {
-    {"run", command_run, -1, "IMAGE RAM N [--image-out FILE] [--ram-out FILE] [--quiet]",
+    {"run", command_run, -1, "IMAGE RAM N [--pad FILE] [--image-out FILE] [--ram-out FILE] [--pad-out FILE] [--quiet]",
      "run N steps and print the registers",
      "Runs N steps of the machine in the files IMAGE and RAM, and prints the library's answer in words and\n"
      "every register by name. N may be any 64-bit number; more than 1,000,000 are run in pieces. Exceptions that\n"
      "were taken are mentioned, in runs of up to 10,000,000 steps. With --quiet only what is not code 0 is said.\n"
-     "The files themselves never change. With --image-out and --ram-out the machine after the run is written\n"
-     "to the files named, which may be those it was read from. They are not written if the run is refused.\n"
+     PAD_HELP
+     "The files themselves never change. With --image-out, --ram-out and --pad-out the machine after the run is\n"
+     "written to the files named, which may be those it was read from: all of them or none. They are not written\n"
+     "if the run is refused.\n"
      "If the run stops before an unknown GTE command (code 5), the machine just before it is printed and written.\n"
      "\n"
      "Status: 0 all steps done; 1 stopped with code 5, or the image is not well formed; 2 bad usage, file trouble,\n"
@@ -856,36 +934,41 @@ static const struct command commands[] = {
      "disagrees with this tool, that is said on stderr and the status is 2.\n"
      "\n"
      "Status: 0 well formed; 1 not well formed, or not of an image's length; 2 bad usage or file trouble.\n"},
-    {"diff", command_diff, -1, "IMAGE [RAM] IMAGE [RAM]", "compare two images, or two machines with their RAM",
+    {"diff", command_diff, -1, "IMAGE IMAGE | IMAGE RAM IMAGE RAM [--pad FILE --pad FILE]",
+     "compare two images, or two machines with RAM and pad",
      "Prints each register that differs, its value in the first image above its value in the second; FLAG is\n"
-     "explained bit by bit. With two images and two RAMs, in the order IMAGE RAM IMAGE RAM, the words of RAM that\n"
-     "differ follow: the address in RAM and both values, the first 32 of them, and how many there are.\n"
-     "With two images alone it says that RAM was not looked at.\n"
+     "explained bit by bit. With two images and two RAMs, in the order IMAGE RAM IMAGE RAM, the words of RAM and\n"
+     "then of the scratch pad that differ follow: the physical address and both values, the first 32 of each, and\n"
+     "how many there are. With two images alone it says that RAM and pad were not looked at.\n"
+     PADS_HELP
      "\n"
      "Status: 0 equal; 1 different; 2 bad usage or file trouble.\n"},
-    {"flags", command_flags, -1, "IMAGE RAM N [--bit B] [--last]", "list the steps that wrote FLAG, and why",
+    {"flags", command_flags, -1, "IMAGE RAM N [--pad FILE] [--bit B] [--last]", "list the steps that wrote FLAG, and why",
      "Runs at most N steps and prints a line for each completed step that wrote FLAG (a GTE command, or CTC2 to\n"
      "register 63): the step, its PC, word and instruction, FLAG before and after, and the bits that came (+) and\n"
      "went (-) by name. Under a GTE command stands a line for each cause of a bit that it set, as why tells them but\n"
      "without the text of 001. With --bit B only the steps that left bit B (12..31) set, also where it was set before.\n"
      "With --last only the last of them: without --bit that is the step that left the FLAG that stands.\n"
      "The lists of two machines can be compared with diff(1).\n"
+     PAD_HELP
      "\n"
      "Status: 0 printed; 1 no such step, or the run stopped before an unknown GTE command, or the image is not well\n"
      "formed; 2 bad usage or file trouble.\n"},
-    {"part", command_part, -1, "IMAGE RAM IMAGE RAM N [--flag] [--coarse]", "find the step at which two machines part",
+    {"part", command_part, -1, "IMAGE RAM IMAGE RAM N [--pad FILE --pad FILE] [--flag] [--coarse]",
+     "find the step at which two machines part",
      "Runs two machines in lockstep, at most N steps, and finds the first step at which something that was equal\n"
-     "differs: a register, or the word of RAM that a store addressed; with --flag, FLAG alone. What differs at the\n"
-     "start is listed first and does not count. Prints the step; PC, word and instruction on both sides; the\n"
-     "registers that part, and each bit of FLAG that one side has and the other has not; for a GTE command the causes\n"
-     "of those bits (see why) and its inputs on both sides, with < and > where they differ, and for a triple which\n"
-     "vertex (or colour) it is; and whether and when the two are equal again.\n"
+     "differs: a register, or the word of RAM or of the scratch pad that a store addressed; with --flag, FLAG alone.\n"
+     "What differs at the start is listed first and does not count. Prints the step; PC, word and instruction on\n"
+     "both sides; the registers that part, and each bit of FLAG that one side has and the other has not; for a GTE\n"
+     "command the causes of those bits (see why) and its inputs on both sides, with < and > where they differ, and\n"
+     "for a triple which vertex (or colour) it is; and whether and when the two are equal again.\n"
      "With --coarse pieces of 1,000,000 steps are compared at their ends first: quicker, but a parting that heals\n"
      "inside a piece is missed.\n"
+     PADS_HELP
      "\n"
      "Status: 0 they do not part; 1 they part, or one stops before an unknown GTE command, or an image is not well\n"
      "formed; 2 bad usage or file trouble.\n"},
-    {"find-flag", command_find_flag, 4, "BIT IMAGE RAM N", "find the first step at which a bit of FLAG comes up",
+    {"find-flag", command_find_flag, -1, "BIT IMAGE RAM N [--pad FILE]", "find the first step at which a bit of FLAG comes up",
      "Runs at most N steps and finds the first one at which bit BIT (12..31) of FLAG comes up: it is clear before\n"
      "the step and set after it. Prints the step's number (the first step is 1), its PC and instruction, FLAG before\n"
      "and after bit by bit, for a GTE command with the causes of each bit (see why), and the registers that the\n"
@@ -893,6 +976,7 @@ static const struct command commands[] = {
      "If the bit is set at the start already, that is said, and the next time it comes up is looked for. A command\n"
      "that finds the bit set and sets it again is not such a time; those steps are named after the others. Which step\n"
      "left the FLAG that stands is what flags --last says. No file changes.\n"
+     PAD_HELP
      "\n"
      "  12 IR0   13 SY2   14 SX2   15 MAC0 negative   16 MAC0 positive   17 divide overflow   18 SZ3 or OTZ\n"
      "  19 blue   20 green   21 red   22 IR3   23 IR2   24 IR1   25 MAC3 negative   26 MAC2 negative\n"
@@ -905,8 +989,8 @@ static const struct command commands[] = {
      "its number (counted from 1: the lines of the block that write a register, those marked for other commands too);\n"
      "and the exact value that left its range, or H and SZ3 for bit 17.\n"
      "WORD is the command: decimal, or hex after 0x; its top seven bits are ignored. With --ram in place of WORD it is\n"
-     "the instruction at PC, as the next step fetches it. Where CU2 of SR is clear, the causes are told all the same,\n"
-     "and that the step itself takes CpU. No file changes.\n"
+     "the instruction at PC, as the next step fetches it, which is never from the scratch pad. Where CU2 of SR is clear,\n"
+     "the causes are told all the same, and that the step itself takes CpU. No file changes.\n"
      "\n"
      "Status: 0 printed, also where no bit is set; 1 the image is not well formed, the command is not one of the 22, or\n"
      "there is none at PC; 2 bad usage or file trouble.\n"},
@@ -934,6 +1018,13 @@ static const struct command commands[] = {
      "An existing file is replaced only with --replace.\n"
      "\n"
      "Status: 0 written; 2 bad usage or file trouble.\n"},
+    {"make-pad", command_make_pad, -1, "FILE [ADDRESS=WORD ...] [--replace]", "write a scratch pad of zeros and some words",
+     "Writes a pad file of 1024 bytes: zeros, and the words given, little-endian.\n"
+     "ADDRESS and WORD are decimal, or hex after 0x; an address is a multiple of 4 in the pad, as loads and stores have\n"
+     "it: 0x1F800000 to 0x1F8003FC, or the same from 0x9F800000 on.\n"
+     "An existing file is replaced only with --replace.\n"
+     "\n"
+     "Status: 0 written; 2 bad usage or file trouble.\n"},
 };
 
 enum { COMMANDS = sizeof commands / sizeof commands[0] };
@@ -942,8 +1033,9 @@ static void print_help(void)
 {
     printf("fliskadee COMMAND ...\n\n"
            "Runs machines of the Fliskadee library (an R3000A with its geometry unit, GTE) from files, and looks at\n"
-           "them. An image is a file of %d bytes with all registers; a RAM is a file of %d to %d bytes.\n\n",
-           FLISKADEE_IMAGE_BYTES, RAM_LEAST, FLISKADEE_MOST_RAM);
+           "them. An image is a file of %d bytes with all registers; a RAM is a file of %d to %d bytes; a scratch pad\n"
+           "is a file of %d bytes, and zeros where no file is given.\n\n",
+           FLISKADEE_IMAGE_BYTES, RAM_LEAST, FLISKADEE_MOST_RAM, FLISKADEE_PAD_BYTES);
     for (int i = 0; i < COMMANDS; i++)
         printf("  %s %s\n      %s\n", commands[i].name, commands[i].usage, commands[i].summary);
     printf("\nfliskadee COMMAND --help, or fliskadee help COMMAND, says more of each; --version names the interface.\n\n"

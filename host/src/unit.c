@@ -42,6 +42,8 @@ enum { HI = 32, LO, PC, NEXT, WAIT, WAITING, SLOT, SR, CAUSE, EPC, BADV, ZERO, C
 static uint32_t word[MODEL_IMAGE_WORDS]; /* the image as words */
 static uint8_t ram[2097152 + 8];
 static size_t ram_length;
+static uint8_t pad[2 * MODEL_PAD_BYTES];
+static size_t pad_length;
 static uint64_t answer;
 
 /* Kernel mode, COP2 usable, PC at 100h, everything else zero. LZCR of LZCS 0 is 32. */
@@ -50,6 +52,8 @@ static void fresh(void)
     memset(word, 0, sizeof word);
     memset(ram, 0, 4096);
     ram_length = 4096;
+    memset(pad, 0, sizeof pad);
+    pad_length = MODEL_PAD_BYTES;
     word[PC] = CODE_BASE;
     word[NEXT] = CODE_BASE + 4;
     word[SR] = CU2;
@@ -77,7 +81,7 @@ static uint64_t run_length(size_t image_length, uint64_t count)
     uint8_t image[512] = {0};
 
     put_image(image);
-    answer = model_run(image, image_length, ram, ram_length, count);
+    answer = model_run(image, image_length, ram, ram_length, pad, pad_length, count);
     get_image(image);
     return answer;
 }
@@ -87,7 +91,7 @@ static uint64_t find_length(size_t image_length, uint64_t count, uint32_t mask)
     uint8_t image[512] = {0};
 
     put_image(image);
-    answer = model_find_flag(image, image_length, ram, ram_length, count, mask);
+    answer = model_find_flag(image, image_length, ram, ram_length, pad, pad_length, count, mask);
     get_image(image);
     return answer;
 }
@@ -520,22 +524,25 @@ static void search(void)
     equal("search, count past 32 bits", find(0x100000005, 1), 4 * MODEL_CODE_UNIT);
 }
 
-/* ---- The RAM window ------------------------------------------------------------- */
+/* ---- The window ------------------------------------------------------------------ */
 
 static uint64_t window_at(size_t length_of_ram, uint32_t address, uint64_t length)
 {
-    return model_window(ram, length_of_ram, address, length);
+    return model_window(ram, length_of_ram, pad, pad_length, address, length);
 }
 
-/* Where the byte lies in RAM, or UINT64_MAX. */
+/* Where the byte lies: its place in RAM, 2^31 and its place in the pad, or UINT64_MAX. */
 static uint64_t byte_place(uint64_t length_of_ram, uint32_t address)
 {
-    static const uint32_t bases[] = {0, 0x80000000, 0xA0000000};
+    static const uint32_t bases[] = {0, 0x80000000, 0xA0000000}, pads[] = {0x1F800000, 0x9F800000};
     unsigned i;
 
     for (i = 0; i < 3; i++)
         if (address >= bases[i] && address - bases[i] < length_of_ram)
             return address - bases[i];
+    for (i = 0; i < 2; i++)
+        if (address >= pads[i] && address - pads[i] < 1024)
+            return 0x80000000 + address - pads[i];
     return UINT64_MAX;
 }
 
@@ -544,7 +551,7 @@ static uint64_t window_by_bytes(uint64_t length_of_ram, uint32_t address, uint64
 {
     uint64_t first = byte_place(length_of_ram, address), words = length_of_ram / 4, i;
 
-    if (words < 1 || words > 524288 || 4 * words != length_of_ram || first == UINT64_MAX)
+    if (words < 1 || words > 524288 || 4 * words != length_of_ram || pad_length != 1024 || first == UINT64_MAX)
         return 0;
     for (i = 0; i < length; i++)
         if (byte_place(length_of_ram, (uint32_t)(address + i)) != first + i)
@@ -552,13 +559,28 @@ static uint64_t window_by_bytes(uint64_t length_of_ram, uint32_t address, uint64
     return first << 32 | length;
 }
 
+/* How many windows at the address differ from the definition: lengths from that one on, and huge ones. */
+static unsigned differing_windows(size_t length_of_ram, uint32_t address, uint64_t from)
+{
+    static const uint64_t huge[] = {0x20000000, 0xFFFFFFFF, 0x100000000, 0x100000001, 0x100000400, 0x7FFFFFFFFFFFFFFF,
+                                    0x8000000000000000, 0x8000000000000001, UINT64_MAX};
+    unsigned i, different = 0;
+    uint64_t length;
+
+    for (length = from; length < from + 24; length++)
+        different += window_at(length_of_ram, address, length) != window_by_bytes(length_of_ram, address, length);
+    for (i = 0; i < sizeof huge / sizeof *huge; i++)
+        different += window_at(length_of_ram, address, huge[i]) != window_by_bytes(length_of_ram, address, huge[i]);
+    return different;
+}
+
 static void windows(void)
 {
     static const size_t rams[] = {0, 1, 2, 3, 4, 5, 6, 7, 8, 12, 13, 20, 2097151, 2097152, 2097153, 2097156};
-    static const uint64_t huge[] = {0x20000000, 0xFFFFFFFF, 0x100000000, 0x100000001, 0x8000000000000001, UINT64_MAX};
-    unsigned i, segment, k, different = 0;
-    uint32_t at, length;
+    unsigned i, segment, different = 0;
+    uint32_t at;
 
+    fresh();
     equal("window at the start", window_at(64, 0, 64), 64);
     equal("window past the end", window_at(64, 0, 65), 0);
     equal("window of the last byte", window_at(64, 0xA000003F, 1), (uint64_t)63 << 32 | 1);
@@ -570,18 +592,56 @@ static void windows(void)
     equal("window of all RAM and one byte", window_at(2097152, 0x80000000, 2097153), 0);
     equal("window in RAM of 2097156", window_at(2097156, 0, 1), 0);
 
-    /* Around both ends of RAM in every segment: short lengths, and huge ones. */
+    /* Around both ends of RAM in every segment. */
     for (i = 0; i < sizeof rams / sizeof *rams; i++)
         for (segment = 0; segment < 8; segment++)
-            for (at = 0; at < 25; at++) {
-                uint32_t address = (segment << 29) + (at < 5 ? at - 2 : (uint32_t)rams[i] + at - 15);
-
-                for (length = 0; length < 24; length++)
-                    different += window_at(rams[i], address, length) != window_by_bytes(rams[i], address, length);
-                for (k = 0; k < sizeof huge / sizeof *huge; k++)
-                    different += window_at(rams[i], address, huge[k]) != window_by_bytes(rams[i], address, huge[k]);
-            }
+            for (at = 0; at < 25; at++)
+                different += differing_windows(rams[i], (segment << 29) + (at < 5 ? at - 2 : (uint32_t)rams[i] + at - 15), 0);
     equal("windows byte by byte", different, 0);
+}
+
+static void pad_windows(void)
+{
+    static const size_t rams[] = {0, 3, 4, 64, 2097151, 2097156}, pads[] = {0, 5, 1020, 1023, 1024, 1025, 1028, 2048};
+    unsigned i, k, segment, different = 0;
+    uint32_t at;
+
+    fresh();
+    equal("window of the whole pad", window_at(64, 0x1F800000, 1024), 0x8000000000000400);
+    equal("window of the whole pad through 100", window_at(64, 0x9F800000, 1024), 0x8000000000000400);
+    equal("window of the pad through 101", window_at(64, 0xBF800000, 1), 0);
+    equal("window of no byte through 101", window_at(64, 0xBF800000, 0), 0);
+    equal("window of the pad's last byte", window_at(64, 0x1F8003FF, 1), 0x800003FF00000001);
+    equal("window of the pad and one byte", window_at(64, 0x1F800000, 1025), 0);
+    equal("window past the pad's end", window_at(64, 0x1F8003FF, 2), 0);
+    equal("window from below the pad", window_at(64, 0x1F7FFFFF, 2), 0);
+    equal("window below the pad", window_at(64, 0x1F7FFFFF, 1), 0);
+    equal("window of no byte in the pad", window_at(64, 0x9F800010, 0), 0x8000001000000000);
+    equal("window of no byte at the pad's start", window_at(64, 0x1F800000, 0), 0x8000000000000000);
+    equal("window of no byte at the pad's end", window_at(64, 0x1F800400, 0), 0);
+    equal("window of 2^32 bytes in the pad", window_at(64, 0x1F800000, 0x100000000), 0);
+    equal("window of 2^63 bytes in the pad", window_at(64, 0x1F800000, 0x8000000000000000), 0);
+    equal("window of 2^64 - 1 bytes in the pad", window_at(64, 0x1F800000, UINT64_MAX), 0);
+    equal("window of the pad in RAM of 6", window_at(6, 0x1F800000, 4), 0);
+    equal("window of no byte of the pad in RAM of 6", window_at(6, 0x1F800010, 0), 0);
+    pad_length = 5; /* T-62 */
+    equal("T-62 window of RAM", window_at(64, 0, 4), 0);
+    equal("T-62 window of no byte of RAM", window_at(64, 16, 0), 0);
+    equal("T-62 window of the pad", window_at(64, 0x1F800000, 4), 0);
+
+    /* Around both ends of the pad in every segment, and at RAM's beginning and end. */
+    for (i = 0; i < sizeof rams / sizeof *rams; i++)
+        for (k = 0; k < sizeof pads / sizeof *pads; k++)
+            for (segment = 0; segment < 8; segment++)
+                for (at = 0; at < 32; at++) {
+                    uint32_t in_pad = (segment << 29) + 0x1F800000 + (at < 16 ? at - 8 : 1024 + at - 24);
+                    uint32_t in_ram = (segment << 29) + (at < 16 ? at - 8 : (uint32_t)rams[i] + at - 24);
+
+                    pad_length = pads[k];
+                    different += differing_windows(rams[i], in_pad, 0) + differing_windows(rams[i], in_pad, 1008);
+                    different += differing_windows(rams[i], in_ram, 0);
+                }
+    equal("windows of both memories byte by byte", different, 0);
 }
 
 /* ---- Load delay -------------------------------------------------------------- */
@@ -1219,7 +1279,18 @@ static void coprocessor0(void)
 
 /* ---- Loads and stores -------------------------------------------------------- */
 
-static void memory(void)
+/* Register 12, AABBCCDDh in both sets, loaded or stored at the address, where this value lies at bytes. */
+static void access(uint32_t opcode, uint32_t address, uint8_t *bytes, uint32_t value)
+{
+    fresh();
+    put_word(bytes, value);
+    word[12] = word[COP2 + 12] = 0xAABBCCDD;
+    word[1] = address - 0x80;
+    step(encode_i(opcode, 12, 1, 0x80));
+}
+
+/* Each load and store at the four bytes of the word at the address, which lies at bytes. */
+static void memory_at(uint32_t address, uint8_t *bytes)
 {
     static const uint32_t lwl[4] = {0x11BBCCDD, 0x2211CCDD, 0x332211DD, 0x44332211};
     static const uint32_t lwr[4] = {0x44332211, 0xAA443322, 0xAABB4433, 0xAABBCC44};
@@ -1228,62 +1299,262 @@ static void memory(void)
     uint32_t n;
 
     for (n = 0; n < 4; n++) {
-        fresh();
-        put_word(ram + 0x20, 0x44332211);
-        word[1] = 0xAABBCCDD;
-        step(encode_i(OP_LWL, 1, 0, 0x20 + (int32_t)n));
+        access(OP_LWL, address + n, bytes, 0x44332211);
         equal("LWL", word[WAITING], lwl[n]);
-        fresh();
-        put_word(ram + 0x20, 0x44332211);
-        word[1] = 0xAABBCCDD;
-        step(encode_i(OP_LWR, 1, 0, 0x20 + (int32_t)n));
+        access(OP_LWR, address + n, bytes, 0x44332211);
         equal("LWR", word[WAITING], lwr[n]);
-        fresh();
-        put_word(ram + 0x20, 0x44332211);
-        word[1] = 0xAABBCCDD;
-        step(encode_i(OP_SWL, 1, 0, 0x20 + (int32_t)n));
-        equal("SWL", get_word(ram + 0x20), swl[n]);
-        fresh();
-        put_word(ram + 0x20, 0x44332211);
-        word[1] = 0xAABBCCDD;
-        step(encode_i(OP_SWR, 1, 0, 0x20 + (int32_t)n));
-        equal("SWR", get_word(ram + 0x20), swr[n]);
-        fresh();
-        put_word(ram + 0x20, 0x84838281);
-        step(encode_i(OP_LB, 1, 0, 0x20 + (int32_t)n));
+        access(OP_SWL, address + n, bytes, 0x44332211);
+        equal("SWL", get_word(bytes), swl[n]);
+        access(OP_SWR, address + n, bytes, 0x44332211);
+        equal("SWR", get_word(bytes), swr[n]);
+        access(OP_LB, address + n, bytes, 0x84838281);
         equal("LB", word[WAITING], 0xFFFFFF81 + n);
-        fresh();
-        put_word(ram + 0x20, 0x84838281);
-        step(encode_i(OP_LBU, 1, 0, 0x20 + (int32_t)n));
+        access(OP_LBU, address + n, bytes, 0x84838281);
         equal("LBU", word[WAITING], 0x81 + n);
-        fresh();
-        put_word(ram + 0x20, 0x44332211);
-        word[1] = 0xAABBCCDD;
-        step(encode_i(OP_SB, 1, 0, 0x20 + (int32_t)n));
-        equal("SB", get_word(ram + 0x20), (0x44332211 & ~(0xFFu << 8 * n)) | 0xDDu << 8 * n);
+        access(OP_SB, address + n, bytes, 0x44332211);
+        equal("SB", get_word(bytes), (0x44332211 & ~(0xFFu << 8 * n)) | 0xDDu << 8 * n);
 
-        fresh();
-        put_word(ram + 0x20, 0x84838281);
-        step(encode_i(OP_LH, 1, 0, 0x20 + (int32_t)n));
+        access(OP_LH, address + n, bytes, 0x84838281);
         equal("LH", n & 1 ? word[CAUSE] : word[WAITING], n & 1 ? 4 << 2 : n ? 0xFFFF8483 : 0xFFFF8281);
-        fresh();
-        put_word(ram + 0x20, 0x84838281);
-        step(encode_i(OP_LHU, 1, 0, 0x20 + (int32_t)n));
+        access(OP_LHU, address + n, bytes, 0x84838281);
         equal("LHU", n & 1 ? word[CAUSE] : word[WAITING], n & 1 ? 4 << 2 : n ? 0x8483 : 0x8281);
-        fresh();
-        put_word(ram + 0x20, 0x44332211);
-        word[1] = 0xAABBCCDD;
-        step(encode_i(OP_SH, 1, 0, 0x20 + (int32_t)n));
-        equal("SH", get_word(ram + 0x20), n & 1 ? 0x44332211 : n ? 0xCCDD2211 : 0x4433CCDD);
+        access(OP_SH, address + n, bytes, 0x44332211);
+        equal("SH", get_word(bytes), n & 1 ? 0x44332211 : n ? 0xCCDD2211 : 0x4433CCDD);
         equal("SH code", word[CAUSE], n & 1 ? 5 << 2 : 0);
-        fresh();
-        step(encode_i(OP_LW, 1, 0, 0x20 + (int32_t)n));
-        equal("LW code", word[CAUSE], n ? 4 << 2 : 0);
-        fresh();
-        step(encode_i(OP_SW, 1, 0, 0x20 + (int32_t)n));
+        access(OP_LW, address + n, bytes, 0x44332211);
+        equal("LW", n ? word[CAUSE] : word[WAITING], n ? 4 << 2 : 0x44332211);
+        access(OP_LWC2, address + n, bytes, 0x44332211);
+        equal("LWC2", cop2(12), n ? 0xAABBCCDD : 0x44332211);
+        equal("LWC2 code", word[CAUSE], n ? 4 << 2 : 0);
+        access(OP_SW, address + n, bytes, 0x44332211);
+        equal("SW", get_word(bytes), n ? 0x44332211 : 0xAABBCCDD);
         equal("SW code", word[CAUSE], n ? 5 << 2 : 0);
-        equal("SW BADV", word[BADV], n ? 0x20 + n : 0);
+        equal("SW BADV", word[BADV], n ? address + n : 0);
+        access(OP_SWC2, address + n, bytes, 0x44332211);
+        equal("SWC2", get_word(bytes), n ? 0x44332211 : 0xAABBCCDD);
+        equal("SWC2 code", word[CAUSE], n ? 5 << 2 : 0);
     }
+}
+
+static void memory(void)
+{
+    memory_at(0x20, ram + 0x20);
+    memory_at(0xFFC, ram + 0xFFC);
+    memory_at(0x80000020, ram + 0x20);
+    memory_at(0xA0000020, ram + 0x20);
+    memory_at(0x1F800000, pad);
+    memory_at(0x1F8003FC, pad + 0x3FC);
+    memory_at(0x1F800200, pad + 0x200);
+    memory_at(0x9F800000, pad);
+    memory_at(0x9F8003FC, pad + 0x3FC);
+}
+
+/* ---- 02, Ticket 1: the scratch pad --------------------------------------------- */
+
+static const struct {
+    uint32_t opcode, size; /* and what the address has to be a multiple of */
+} accesses[] = {{OP_LB, 1}, {OP_LH, 2}, {OP_LWL, 1}, {OP_LW, 4}, {OP_LBU, 1}, {OP_LHU, 2}, {OP_LWR, 1}, {OP_LWC2, 4},
+                {OP_SB, 1}, {OP_SH, 2}, {OP_SWL, 1}, {OP_SW, 4}, {OP_SWR, 1}, {OP_SWC2, 4}};
+
+#define LOADS 8 /* the first of them */
+#define ACCESSES (sizeof accesses / sizeof *accesses)
+
+/* A fresh machine with a different byte at each place of both memories. */
+static void fill_memories(void)
+{
+    unsigned i;
+
+    fresh();
+    for (i = 0; i < ram_length; i++)
+        ram[i] = (uint8_t)(i * 7 + i / 256);
+    for (i = 0; i < sizeof pad; i++)
+        pad[i] = (uint8_t)(i * 11 + i / 256 + 128);
+}
+
+static uint8_t ram_before[4096], pad_before[sizeof pad];
+
+static void keep_memories(void)
+{
+    memcpy(ram_before, ram, sizeof ram_before);
+    memcpy(pad_before, pad, sizeof pad_before);
+}
+
+static bool memories_unchanged(void)
+{
+    return memcmp(ram_before, ram, sizeof ram_before) == 0 && memcmp(pad_before, pad, sizeof pad_before) == 0;
+}
+
+/* One access from filled memories, as they were kept. */
+static void access_filled(uint32_t opcode, uint32_t address, uint32_t sr)
+{
+    fill_memories();
+    word[SR] = sr;
+    word[1] = address + 0x80;
+    word[2] = word[COP2 + 2] = 0x3C5A6978;
+    word[BADV] = 77;
+    put_word(ram + CODE_BASE, encode_i(opcode, 2, 1, -0x80));
+    keep_memories();
+    run(1);
+}
+
+/* The access takes this exception, with this BADV, and moves no byte. */
+static void access_fails(unsigned k, uint32_t address, uint32_t sr, uint32_t code, uint32_t badv)
+{
+    access_filled(accesses[k].opcode, address, sr);
+    equal("exception at the pad", word[CAUSE], code << 2);
+    equal("BADV at the pad", word[BADV], badv);
+    equal("EPC at the pad", word[EPC], CODE_BASE);
+    equal("memories after an exception", memories_unchanged(), true);
+}
+
+static void pad_exceptions(void)
+{
+    static const uint32_t bus_errors[] = {0x1F7FFFFC, 0x1F800400, 0x9F7FFFFC, 0x9F800400, 0xBF7FFFFC, 0xBF800000, 0xBF800200,
+                                          0xBF8003FC, 0xBF800400, 0x3F800000, 0x5F800000, 0x7F800000, 0xDF800000, 0xFF800000,
+                                          0x1F000000, 0x1FC00000, 0x1FFFFC00, 0x0F800000, 0x1E800000, 0x1F840000};
+    static const uint32_t places[] = {0, 0x200, 0x3FC};
+    unsigned i, k;
+
+    for (k = 0; k < ACCESSES; k++) {
+        uint32_t size = accesses[k].size, address_error = k < LOADS ? 4 : 5;
+
+        for (i = 0; i < sizeof bus_errors / sizeof *bus_errors; i++)
+            access_fails(k, bus_errors[i], CU2, 7, 77);
+        if (size == 1) /* the last byte below the pad; in the word, its neighbour is in no memory either */
+            access_fails(k, 0x1F7FFFFF, CU2, 7, 77);
+        for (i = 0; i < 3; i++) {
+            access_fails(k, 0x9F800000 + places[i], USER | CU2, address_error, 0x9F800000 + places[i]);
+            access_fails(k, 0xBF800000 + places[i], USER | CU2, address_error, 0xBF800000 + places[i]);
+            if (size == 1)
+                continue;
+            access_fails(k, 0x1F800001 + places[i], CU2, address_error, 0x1F800001 + places[i]);
+            access_fails(k, 0x9F800003 + places[i], CU2, address_error, 0x9F800003 + places[i]);
+            access_fails(k, 0xBF800001 + places[i], CU2, address_error, 0xBF800001 + places[i]);
+        }
+        access_filled(accesses[k].opcode, 0x1F800000, USER | CU2);
+        equal("the pad in user mode", word[CAUSE], 0);
+    }
+    access_filled(OP_LWC2, 0x1F800000, 0);
+    equal("LWC2 in the pad, CU2 clear", word[CAUSE], CAUSE_CPU(2u));
+    access_filled(OP_SWC2, 0x1F800000, 0);
+    equal("SWC2 in the pad, CU2 clear", word[CAUSE], CAUSE_CPU(2u));
+    equal("SWC2 in the pad moves nothing", memories_unchanged(), true);
+}
+
+/* A fetch at PC, where an instruction stands in the pad. */
+static void fetch(uint32_t pc, uint32_t sr, uint32_t code, uint32_t badv)
+{
+    unsigned i;
+
+    fresh();
+    word[SR] = sr;
+    word[PC] = pc;
+    word[NEXT] = pc + 4;
+    word[BADV] = 77;
+    for (i = 0; i < sizeof pad; i += 4)
+        put_word(pad + i, encode_i(OP_ADDIU, 1, 0, 5));
+    equal("fetch at the pad", run(1), 1);
+    equal("fetch, CAUSE", word[CAUSE], code << 2);
+    equal("fetch, BADV", word[BADV], badv);
+    equal("fetch, EPC", word[EPC], pc);
+    equal("fetch, register 1", word[1], 0);
+}
+
+static void pad_fetches(void)
+{
+    static const uint32_t places[] = {0, 0x200, 0x3FC, 0x400, 0xFFFFFFFC};
+    unsigned i;
+
+    for (i = 0; i < sizeof places / sizeof *places; i++) {
+        fetch(0x1F800000 + places[i], CU2, 6, 77);
+        fetch(0x9F800000 + places[i], CU2, 6, 77);
+        fetch(0xBF800000 + places[i], CU2, 6, 77);
+        fetch(0x1F800000 + places[i], USER, 6, 77);
+        fetch(0x9F800000 + places[i], USER, 4, 0x9F800000 + places[i]);
+        fetch(0x1F800002 + places[i], CU2, 4, 0x1F800002 + places[i]);
+    }
+    fresh(); /* jumped to, the delay slot being in RAM */
+    word[1] = 0x1F800000;
+    put_word(pad, encode_i(OP_ADDIU, 2, 0, 5));
+    put_word(ram + CODE_BASE, encode_r(F_JR, 0, 1, 0, 0));
+    put_word(ram + CODE_BASE + 4, encode_i(OP_SW, 1, 1, 0));
+    equal("jump to the pad", run(3), 3);
+    equal("jump to the pad, CAUSE", word[CAUSE], 6 << 2);
+    equal("jump to the pad, EPC", word[EPC], 0x1F800000);
+    equal("jump to the pad, its word", get_word(pad), 0x1F800000);
+}
+
+/* A store changes the word that it is in, of one memory. */
+static void pad_stores(void)
+{
+    static const struct {
+        uint32_t address;
+        uint8_t *bytes, *before;
+    } places[] = {{0x1F800000, pad, pad_before},
+                  {0x1F800200, pad + 0x200, pad_before + 0x200},
+                  {0x9F8003FC, pad + 0x3FC, pad_before + 0x3FC},
+                  {0, ram, ram_before},
+                  {0xA0000200, ram + 0x200, ram_before + 0x200},
+                  {0x800003FC, ram + 0x3FC, ram_before + 0x3FC}};
+    unsigned i, k;
+
+    for (i = 0; i < sizeof places / sizeof *places; i++)
+        for (k = LOADS; k < ACCESSES; k++) {
+            access_filled(accesses[k].opcode, places[i].address, CU2);
+            equal("a store changes its word", memcmp(places[i].bytes, places[i].before, 4) != 0, true);
+            memcpy(places[i].bytes, places[i].before, 4);
+            equal("a store changes nothing else", memories_unchanged(), true);
+        }
+}
+
+/* Every subset of the five reasons to refuse a call: the first in the order 1, 2, 3, 6, 4 is the answer, and nothing changes. */
+static void refusals_together(void)
+{
+    static const unsigned order[] = {1, 2, 3, 6, 4};
+    uint32_t before[MODEL_IMAGE_WORDS];
+    unsigned wrong, i, search;
+
+    for (wrong = 0; wrong < 32; wrong++)
+        for (search = 0; search < 2; search++) {
+            size_t image_length = wrong & 1 ? 431 : 432;
+            uint64_t count = wrong & 16 ? 1000001 : 0, expected = 0;
+
+            for (i = 5; i-- > 0;)
+                if (wrong >> i & 1)
+                    expected = order[i] * MODEL_CODE_UNIT;
+            fill_memories();
+            put_word(ram + CODE_BASE, encode_i(OP_SW, 1, 1, 0)); /* what a step would do */
+            word[1] = 0x1F800000;
+            word[0] = wrong >> 1 & 1;
+            ram_length = wrong & 4 ? 2097156 : 4096;
+            pad_length = wrong & 8 ? 1023 : 1024;
+            memcpy(before, word, sizeof word);
+            keep_memories();
+            equal("refusals together", search ? find_length(image_length, count, 1) : run_length(image_length, count), expected);
+            equal("refusals together, the image", memcmp(before, word, sizeof word), 0);
+            equal("refusals together, the memories", memories_unchanged(), true);
+        }
+}
+
+static void pad_lengths(void)
+{
+    static const size_t lengths[] = {0, 1, 5, 512, 1020, 1023, 1025, 1028, 2048};
+    unsigned i;
+
+    for (i = 0; i < sizeof lengths / sizeof *lengths; i++) {
+        fresh();
+        pad_length = lengths[i];
+        equal("pad length", run(1), 6 * MODEL_CODE_UNIT);
+        equal("pad length, count 0", run(0), 6 * MODEL_CODE_UNIT);
+        equal("pad length, count too high", run(2000000), 6 * MODEL_CODE_UNIT);
+        equal("pad length, search", find(1, 1), 6 * MODEL_CODE_UNIT);
+        equal("pad length, PC", word[PC], CODE_BASE);
+    }
+    pad_length = 1024;
+    equal("pad of 1024", run(1), 1);
+    ram_length = 6; /* T-61 */
+    pad_length = 5;
+    equal("T-61 RAM and pad", run(1), 3 * MODEL_CODE_UNIT);
 }
 
 /* ---- COP2 registers ---------------------------------------------------------- */
@@ -2513,6 +2784,7 @@ int main(void)
     unlisted_commands();
     search();
     windows();
+    pad_windows();
     load_delay();
     arithmetic();
     jumps();
@@ -2520,6 +2792,11 @@ int main(void)
     exceptions();
     coprocessor0();
     memory();
+    pad_exceptions();
+    pad_fetches();
+    pad_stores();
+    refusals_together();
+    pad_lengths();
     cop2_registers();
     gte();
     demand_3();

@@ -2,14 +2,16 @@
 // from the bench" that are not starred.
 // Standard input has lines of 20 bytes: a letter, and two numbers of 8 hexadecimal digits (or, after `n`, a name).
 //   n  a case begins: registers of zeros; an image that is fresh (zeros, but next PC 4 and COP2 register 31, which is 32), of 432
-//      bytes; RAM of zeros, 4096 bytes
+//      bytes; RAM of zeros, 4096 bytes; a pad of zeros, 1024 bytes
 //   g  a COP2 register, and the word to write       w  a word of the image, and its value     s  a run: the count's low word
 //   c  a command word, and its outcome (0 done,     m  an address in RAM, and its word        f  a search: the count, the mask
 //      1 not listed)                                i  the image's length                     v  a window: the address, the length
 //   x  a COP2 register, and what a read returns     l  the RAM's length                       a  what the last of these answered:
 //                                                   h  the count's high word                     high word, low word
 //   r  a word of the image, and what it is to be    q  an address in RAM, and what its word is to be
-//   k  the last run or search has changed no byte of image and RAM
+//   d  a place in the pad, and its word             t  a place in the pad, and what its word is to be
+//   j  the pad's length
+//   k  the last run or search has changed no byte of image, RAM and pad
 //   p  a window as bytes: the address, the length; it answers the length, and the last byte by 256 plus the first
 //   e  the causes of a command word on the image, and how many words are lent, at most 600: it answers code and number, and RAM then
 //      begins with 600 words, the lent ones and others behind, each EEEEEEEEh where nothing was written
@@ -24,10 +26,11 @@ struct Tally {
     clean: bool,
 }
 
-// What goes by value of a case. before: a digest of image and RAM before the last run or search.
+// What goes by value of a case. before: a digest of image, RAM and pad before the last run or search.
 struct Case {
     image_length: usize,
     ram_length: usize,
+    pad_length: usize,
     high: u32,
     answer: u64,
     before: u64,
@@ -178,54 +181,59 @@ fn join(high: u32, low: u32) -> u64 {
     (high as u64) * 0x1_0000_0000 + low as u64
 }
 
-// A run over the first bytes of image and RAM; all ones where there are not so many.
-fn run(
-    image: &mut [u8],
-    ram: &mut [u8],
-    image_length: usize,
-    ram_length: usize,
-    count: u64,
-) -> u64 {
-    if image.len() < image_length {
+// A run over the first bytes of image, RAM and pad; all ones where there are not so many.
+fn run(image: &mut [u8], ram: &mut [u8], pad: &mut [u8], x: Case, count: u64) -> u64 {
+    let i = x.image_length;
+    let m = x.ram_length;
+    let n = x.pad_length;
+    if image.len() < i {
         return 0xffff_ffff_ffff_ffff;
     }
-    if ram.len() < ram_length {
+    if ram.len() < m {
         return 0xffff_ffff_ffff_ffff;
     }
-    fliskadee::fliskadee_run(&mut image[0..image_length], &mut ram[0..ram_length], count)
+    if pad.len() < n {
+        return 0xffff_ffff_ffff_ffff;
+    }
+    fliskadee::fliskadee_run(&mut image[0..i], &mut ram[0..m], &mut pad[0..n], count)
 }
 
 // A search, in the same way.
-fn find(
-    image: &mut [u8],
-    ram: &mut [u8],
-    image_length: usize,
-    ram_length: usize,
-    count: u64,
-    mask: u32,
-) -> u64 {
-    if image.len() < image_length {
+fn find(image: &mut [u8], ram: &mut [u8], pad: &mut [u8], x: Case, count: u64, mask: u32) -> u64 {
+    let i = x.image_length;
+    let m = x.ram_length;
+    let n = x.pad_length;
+    if image.len() < i {
         return 0xffff_ffff_ffff_ffff;
     }
-    if ram.len() < ram_length {
+    if ram.len() < m {
+        return 0xffff_ffff_ffff_ffff;
+    }
+    if pad.len() < n {
         return 0xffff_ffff_ffff_ffff;
     }
     fliskadee::fliskadee_find_flag(
-        &mut image[0..image_length],
-        &mut ram[0..ram_length],
+        &mut image[0..i],
+        &mut ram[0..m],
+        &mut pad[0..n],
         count,
         mask,
     )
 }
 
-fn window(ram: &[u8], ram_length: usize, address: u32, n: u32) -> u64 {
-    if ram.len() < ram_length {
+fn window(ram: &[u8], pad: &[u8], x: Case, address: u32, length: u32) -> u64 {
+    let m = x.ram_length;
+    let n = x.pad_length;
+    if ram.len() < m {
         return 0xffff_ffff_ffff_ffff;
     }
-    fliskadee::fliskadee_window(&ram[0..ram_length], address, n as u64)
+    if pad.len() < n {
+        return 0xffff_ffff_ffff_ffff;
+    }
+    fliskadee::fliskadee_window(&ram[0..m], &pad[0..n], address, length as u64)
 }
 
-// What a part of RAM holds: its length, its last byte and its first; 0 where it is empty.
+// What a part of RAM or pad holds: its length, its last byte and its first; 0 where it is empty.
 fn ends(part: &[u8]) -> u64 {
     let n = part.len();
     if n == 0 {
@@ -236,15 +244,21 @@ fn ends(part: &[u8]) -> u64 {
     (n % 0x100_0000) as u64 * 0x1_0000_0000 + last * 0x100 + first
 }
 
-// The window as the part of RAM itself, which no call from C can return.
-fn part(ram: &[u8], ram_length: usize, address: u32, n: u32) -> u64 {
-    if ram.len() < ram_length {
+// The window as the part of RAM or pad itself, which no call from C can return.
+fn part<'a>(ram: &'a [u8], pad: &'a [u8], x: Case, address: u32, length: u32) -> u64 {
+    let m = x.ram_length;
+    let n = x.pad_length;
+    if ram.len() < m {
+        return 0xffff_ffff_ffff_ffff;
+    }
+    if pad.len() < n {
         return 0xffff_ffff_ffff_ffff;
     }
     ends(window::window(
-        &ram[0..ram_length],
+        &ram[0..m],
+        &pad[0..n],
         memory::addresses::Virt(address),
-        n as usize,
+        length as usize,
     ))
 }
 
@@ -293,6 +307,12 @@ fn with_ram_length(x: Case, n: u32) -> Case {
     y
 }
 
+fn with_pad_length(x: Case, n: u32) -> Case {
+    let mut y = x;
+    y.pad_length = n as usize;
+    y
+}
+
 fn with_high(x: Case, n: u32) -> Case {
     let mut y = x;
     y.high = n;
@@ -309,6 +329,7 @@ fn counted(x: Case, t: Tally) -> Case {
     Case {
         image_length: x.image_length,
         ram_length: x.ram_length,
+        pad_length: x.pad_length,
         high: x.high,
         answer: x.answer,
         before: x.before,
@@ -317,15 +338,23 @@ fn counted(x: Case, t: Tally) -> Case {
 }
 
 // A case begins.
-fn begin_case(g: &mut [u32; 64], image: &mut [u8; 512], ram: &mut [u8; 2097160], t: Tally) -> Case {
+fn begin_case(
+    g: &mut [u32; 64],
+    image: &mut [u8; 512],
+    ram: &mut [u8; 2097160],
+    pad: &mut [u8; 2048],
+    t: Tally,
+) -> Case {
     *g = [0; 64];
     *image = [0; 512];
     *ram = [0; 2097160];
+    *pad = [0; 2048];
     put(image, 140, 4);
     put(image, 300, 32);
     Case {
         image_length: 432,
         ram_length: 4096,
+        pad_length: 1024,
         high: 0,
         answer: 0,
         before: 0,
@@ -344,6 +373,7 @@ fn follow(
     g: &mut [u32; 64],
     image: &mut [u8; 512],
     ram: &mut [u8; 2097160],
+    pad: &mut [u8; 2048],
     letter: u8,
     a: u32,
     b: u32,
@@ -361,25 +391,24 @@ fn follow(
             put(ram, a as usize, b);
             x
         }
+        b'd' => {
+            put(pad, a as usize, b);
+            x
+        }
         b'i' => with_image_length(x, a),
         b'l' => with_ram_length(x, a),
+        b'j' => with_pad_length(x, a),
         b'h' => with_high(x, a),
-        b's' => with_answer(
-            x,
-            run(image, ram, x.image_length, x.ram_length, join(x.high, a)),
-        ),
-        b'f' => with_answer(
-            x,
-            find(image, ram, x.image_length, x.ram_length, join(x.high, a), b),
-        ),
-        b'v' => with_answer(x, window(ram, x.ram_length, a, b)),
+        b's' => with_answer(x, run(image, ram, pad, x, join(x.high, a))),
+        b'f' => with_answer(x, find(image, ram, pad, x, join(x.high, a), b)),
+        b'v' => with_answer(x, window(ram, pad, x, a, b)),
         b'e' => with_answer(x, causes(image, ram, x.image_length, a, b as usize)),
-        b'p' => with_answer(x, part(ram, x.ram_length, a, b)),
+        b'p' => with_answer(x, part(ram, pad, x, a, b)),
         b'c' => {
             let t = x.tally;
             counted(x, compare(t, a, outcome(g, a), b as u64))
         }
-        _ => check_line(x, g, image, ram, letter, a, b),
+        _ => check_line(x, g, image, ram, pad, letter, a, b),
     }
 }
 
@@ -389,6 +418,7 @@ fn check_line(
     g: &[u32; 64],
     image: &[u8; 512],
     ram: &[u8; 2097160],
+    pad: &[u8; 2048],
     letter: u8,
     a: u32,
     b: u32,
@@ -410,6 +440,7 @@ fn check_line(
             compare(t, a, word(image, (a as usize) * 4) as u64, b as u64),
         ),
         b'q' => counted(x, compare(t, a, word(ram, a as usize) as u64, b as u64)),
+        b't' => counted(x, compare(t, a, word(pad, a as usize) as u64, b as u64)),
         _ => counted(x, compare(t, wide(letter), 0, 1)),
     }
 }
@@ -420,11 +451,15 @@ fn with_before(x: Case, n: u64) -> Case {
     y
 }
 
-// What stands in image and RAM is noted before a run or a search, for `k`.
-fn noted(x: Case, letter: u8, image: &[u8; 512], ram: &[u8; 2097160]) -> Case {
+fn all(image: &[u8; 512], ram: &[u8; 2097160], pad: &[u8; 2048]) -> u64 {
+    digest(pad, digest(ram, digest(image, 0)))
+}
+
+// What stands in image, RAM and pad is noted before a run or a search, for `k`.
+fn noted(x: Case, letter: u8, image: &[u8; 512], ram: &[u8; 2097160], pad: &[u8; 2048]) -> Case {
     match letter {
-        b's' => with_before(x, digest(ram, digest(image, 0))),
-        b'f' => with_before(x, digest(ram, digest(image, 0))),
+        b's' => with_before(x, all(image, ram, pad)),
+        b'f' => with_before(x, all(image, ram, pad)),
         _ => x,
     }
 }
@@ -435,6 +470,7 @@ fn line(
     g: &mut [u32; 64],
     image: &mut [u8; 512],
     ram: &mut [u8; 2097160],
+    pad: &mut [u8; 2048],
     buf: &[u8; 65520],
     k: usize,
 ) -> Case {
@@ -447,10 +483,19 @@ fn line(
         b'n' => {
             end_case(t);
             print_name(buf, at + 2);
-            begin_case(g, image, ram, t)
+            begin_case(g, image, ram, pad, t)
         }
-        b'k' => counted(x, compare(t, 0, digest(ram, digest(image, 0)), x.before)),
-        _ => follow(noted(x, letter, image, ram), g, image, ram, letter, a, b),
+        b'k' => counted(x, compare(t, 0, all(image, ram, pad), x.before)),
+        _ => follow(
+            noted(x, letter, image, ram, pad),
+            g,
+            image,
+            ram,
+            pad,
+            letter,
+            a,
+            b,
+        ),
     }
 }
 
@@ -460,13 +505,14 @@ fn block(
     g: &mut [u32; 64],
     image: &mut [u8; 512],
     ram: &mut [u8; 2097160],
+    pad: &mut [u8; 2048],
     buf: &[u8; 65520],
     lines: usize,
 ) -> Case {
     let mut x = first;
     let mut k: usize = 0;
     while k < lines {
-        x = line(x, g, image, ram, buf, k);
+        x = line(x, g, image, ram, pad, buf, k);
         k += 1;
     }
     x
@@ -487,6 +533,7 @@ fn nothing() -> Case {
     Case {
         image_length: 0,
         ram_length: 0,
+        pad_length: 0,
         high: 0,
         answer: 0,
         before: 0,
@@ -507,12 +554,13 @@ fn read_block(buf: &mut [u8; 65520]) -> usize {
 fn follow_all(ram: &mut [u8; 2097160]) -> Tally {
     let mut g = [0u32; 64];
     let mut image = [0u8; 512];
+    let mut pad = [0u8; 2048];
     let mut buf = [0u8; 65520];
     let mut x = nothing();
     let mut i: usize = 0;
     while i < 16 {
         let n = read_block(&mut buf);
-        x = block(x, &mut g, &mut image, ram, &buf, n / 20);
+        x = block(x, &mut g, &mut image, ram, &mut pad, &buf, n / 20);
         if n % 20 != 0 {
             io::write_all(1, b"\nthe input ends inside a line");
         }

@@ -7,9 +7,9 @@ use Rattle.cpu_effects.specs.Flow.{jumped, with}
 
 unfoldable pub jumpStep : ℕ → State → State
 jumpStep t s =
-    state (with (jumped (s .control .flow) t) none (s .control)) (landed (s .control .pending) (s .registers)) (s .geometry) (s .ram)
+    state (with (jumped (s .control .flow) t) none (s .control)) (landed (s .control .pending) (s .registers)) (s .geometry) (s .memory)
 
 unfoldable pub linkStep : ℕ → ℕ → ℕ → State → State
 linkStep n link t s =
     state (with (jumped (s .control .flow) t) none (s .control)) (withRegister (landed (s .control .pending) (s .registers)) n link)
-    (s .geometry) (s .ram)
+    (s .geometry) (s .memory)

@@ -2,6 +2,7 @@
 ghost use mathlib.Core.List.{List};
 ghost use mathlib.Core.Path.{_≡_};
 ghost use Prim.Native.Nat.{ℕ};
+ghost use Rattle.memory.specs.Memory.{Memory};
 ghost use Rattle.cpu_state.specs.State.{state};
 ghost use Rattle.cpu_effects.specs.Jumps.{jumpStep, linkStep};
 use crate::delay::land;
@@ -13,7 +14,7 @@ use cpu_state::control::Control;
 
 // J, JR and the branches without a link.
 pub fn do_jump(c: Control, r: &mut [u32; 32], target: u32) -> Control
-    ensures { λ d. ⌜ ((g m : List ℕ) → state d (now (r .exit)) g m ≡ jumpStep target (state c (now (r .entry)) g m)) ⌝ }
+    ensures { λ d. ⌜ ((g : List ℕ) (m : Memory) → state d (now (r .exit)) g m ≡ jumpStep target (state c (now (r .entry)) g m)) ⌝ }
 {
     land(c.pending, r);
     with_flow(c, jump(c.flow, target), nothing())
@@ -21,7 +22,7 @@ pub fn do_jump(c: Control, r: &mut [u32; 32], target: u32) -> Control
 
 // JAL, JALR, BLTZAL and BGEZAL. The link comes after the landing, so it drops a value that waits for its register.
 pub fn do_link(c: Control, r: &mut [u32; 32], n: usize, link: u32, target: u32) -> Control
-    ensures { λ d. ⌜ ((g m : List ℕ) → state d (now (r .exit)) g m ≡ linkStep n link target (state c (now (r .entry)) g m)) ⌝ }
+    ensures { λ d. ⌜ ((g : List ℕ) (m : Memory) → state d (now (r .exit)) g m ≡ linkStep n link target (state c (now (r .entry)) g m)) ⌝ }
 {
     land(c.pending, r);
     write_register(r, n, link);

@@ -2,6 +2,7 @@
 ghost use mathlib.Core.List.{List};
 ghost use mathlib.Core.Path.{_≡_};
 ghost use Prim.Native.Nat.{ℕ};
+ghost use Rattle.memory.specs.Memory.{Memory};
 ghost use Rattle.cpu_state.specs.State.{state};
 ghost use Rattle.cpu_effects.specs.Effects.{nextStep, writeStep, productStep, systemStep, waitStep};
 use crate::delay::land;
@@ -17,7 +18,7 @@ use cpu_state::control::System;
 
 // An instruction that changes nothing in the processor itself: stores, writes to COP2, commands.
 pub fn do_next(c: Control, r: &mut [u32; 32]) -> Control
-    ensures { λ d. ⌜ ((g m : List ℕ) → state d (now (r .exit)) g m ≡ nextStep (state c (now (r .entry)) g m)) ⌝ }
+    ensures { λ d. ⌜ ((g : List ℕ) (m : Memory) → state d (now (r .exit)) g m ≡ nextStep (state c (now (r .entry)) g m)) ⌝ }
 {
     land(c.pending, r);
     with_flow(c, next(c.flow), nothing())
@@ -25,7 +26,7 @@ pub fn do_next(c: Control, r: &mut [u32; 32]) -> Control
 
 // A result that shows at once. It comes after the landing, so it drops a value that waits for its register.
 pub fn do_write(c: Control, r: &mut [u32; 32], n: usize, v: u32) -> Control
-    ensures { λ d. ⌜ ((g m : List ℕ) → state d (now (r .exit)) g m ≡ writeStep n v (state c (now (r .entry)) g m)) ⌝ }
+    ensures { λ d. ⌜ ((g : List ℕ) (m : Memory) → state d (now (r .exit)) g m ≡ writeStep n v (state c (now (r .entry)) g m)) ⌝ }
 {
     land(c.pending, r);
     write_register(r, n, v);
@@ -34,7 +35,7 @@ pub fn do_write(c: Control, r: &mut [u32; 32], n: usize, v: u32) -> Control
 
 // A new HI and LO: multiplication, division, MTHI, MTLO.
 pub fn do_product(c: Control, r: &mut [u32; 32], h: HiLo) -> Control
-    ensures { λ d. ⌜ ((g m : List ℕ) → state d (now (r .exit)) g m ≡ productStep h (state c (now (r .entry)) g m)) ⌝ }
+    ensures { λ d. ⌜ ((g : List ℕ) (m : Memory) → state d (now (r .exit)) g m ≡ productStep h (state c (now (r .entry)) g m)) ⌝ }
 {
     let s = c.system;
     land(c.pending, r);
@@ -48,7 +49,7 @@ pub fn do_product(c: Control, r: &mut [u32; 32], h: HiLo) -> Control
 
 // A new Cop0 state: MTC0 and RFE.
 pub fn do_system(c: Control, r: &mut [u32; 32], s: System) -> Control
-    ensures { λ d. ⌜ ((g m : List ℕ) → state d (now (r .exit)) g m ≡ systemStep s (state c (now (r .entry)) g m)) ⌝ }
+    ensures { λ d. ⌜ ((g : List ℕ) (m : Memory) → state d (now (r .exit)) g m ≡ systemStep s (state c (now (r .entry)) g m)) ⌝ }
 {
     let h = c.product;
     land(c.pending, r);
@@ -62,7 +63,7 @@ pub fn do_system(c: Control, r: &mut [u32; 32], s: System) -> Control
 
 // A result that shows one instruction late: loads, MFC0, MFC2, CFC2.
 pub fn do_wait(c: Control, r: &mut [u32; 32], n: usize, v: u32) -> Control
-    ensures { λ d. ⌜ ((g m : List ℕ) → state d (now (r .exit)) g m ≡ waitStep n v (state c (now (r .entry)) g m)) ⌝ }
+    ensures { λ d. ⌜ ((g : List ℕ) (m : Memory) → state d (now (r .exit)) g m ≡ waitStep n v (state c (now (r .entry)) g m)) ⌝ }
 {
     land_unless(c.pending, r, n);
     with_flow(c, next(c.flow), to_wait(n, v))

@@ -5,7 +5,7 @@ use Prim.Native.Nat.{ℕ, _%_}
 use lib.ListN.{length}
 use Rattle.memory.specs.Addresses.{placeOf}
 use Rattle.memory.specs.Loads.{loadAlign, loadOf}
-use Rattle.memory.specs.Stores.{storeAlign, storeOf, ramAfter}
+use Rattle.memory.specs.Stores.{storeAlign, storeOf, memoryAfter}
 use Rattle.memory.specs.declared.loads.LoadKind.{LoadKind}
 use Rattle.memory.specs.declared.loads.LoadKind.the-variants as K
 use Rattle.memory.specs.declared.stores.StoreKind.{StoreKind}
@@ -26,10 +26,10 @@ use Rattle.cpu_effects.specs.Traps.{trapStep, faultStep}
 
 -- ---- what the effects that reach memory or COP2 do
 abbrev pub geometryStep : List ℕ → State → State
-geometryStep g s = nextStep (state (s .control) (s .registers) g (s .ram))
+geometryStep g s = nextStep (state (s .control) (s .registers) g (s .memory))
 
 abbrev pub loaded : LoadKind → ℕ → ℕ → State → Loaded
-loaded k old a s = loadOf k (s .ram) old (placeOf a (loadAlign k) (userOf (s .control .system)) (length (s .ram)))
+loaded k old a s = loadOf k (s .memory) old (placeOf a (loadAlign k) (userOf (s .control .system)) (length (s .memory .ram)))
 
 abbrev pub afterLoad : (ℕ → State) → ℕ → State → Loaded → State
 afterLoad f a s (L.Value x) = f x
@@ -50,8 +50,8 @@ afterStore a s S.Address = faultStep 5 a s
 
 unfoldable pub storeStep : StoreKind → ℕ → ℕ → State → State
 storeStep k x a s =
-    let at = placeOf a (storeAlign k) (userOf (s .control .system)) (length (s .ram)) in
-    afterStore a (state (s .control) (s .registers) (s .geometry) (ramAfter k (s .ram) x at)) (storeOf at)
+    let at = placeOf a (storeAlign k) (userOf (s .control .system)) (length (s .memory .ram)) in
+    afterStore a (state (s .control) (s .registers) (s .geometry) (memoryAfter k (s .memory) x at)) (storeOf at)
 
 -- ---- a step completes, or stops before an unlisted COP2 command with nothing changed
 pub record Tick : Type 0 where

@@ -1,2 +1,3 @@
 mod Answers
 mod Refused
+pub mod Parts

@@ -3,18 +3,18 @@ use Prim.Native.Nat.{ℕ, _+_, _*_}
 use native.Mathlib.Omega.{arith}
 use mathlib.Core.List.{List}
 use mathlib.Core.Path.{_≡_, sym, ap, _∙_}
-use lib.ListN.{length}
 use borrow.Author.Tests.{ne-eqb}
+use Rattle.memory.specs.Memory.{Memory}
 use Rattle.image.specs.Refusals.{refusalOf, refusalAfter, readOf}
 use Rattle.image.specs.declared.admission.Read.{Read}
 use Rattle.image.proofs.Refusals.{halves, code-of}
 use Rattle.fliskadee.specs.Find.{Answer, answer, unlessRefused}
 
-pub refused-is : (code : ℕ) (m ram : List ℕ) (a : Answer) (n : ℕ) → (code ≡ 0 → ⊥) → n ≡ code * 1048576 → answer n m ram ≡ unlessRefused code m ram a
-refused-is code m ram a n h e =
+pub refused-is : (code : ℕ) (i : List ℕ) (m : Memory) (a : Answer) (n : ℕ) → (code ≡ 0 → ⊥) → n ≡ code * 1048576 → answer n i m ≡ unlessRefused code i m a
+refused-is code i m a n h e =
     let z : n ≡ code * 1048576 + 0 = omega arith in
     rw (ne-eqb code 0 h, z)
 
 -- the code that the two halves of the tests give is the call's
-pub code-is : (code : ℕ) (r : Read) (m : List ℕ) (len count : ℕ) → r ≡ readOf m → code ≡ refusalAfter (r .code) len count → code ≡ refusalOf m len count
-code-is code r m len count e h = h ∙ ap (λ (x : ℕ). refusalAfter x len count) (code-of r m e) ∙ sym (halves m len count)
+pub code-is : (code : ℕ) (r : Read) (i : List ℕ) (m : Memory) (count : ℕ) → r ≡ readOf i → code ≡ refusalAfter (r .code) m count → code ≡ refusalOf i m count
+code-is code r i m count e h = h ∙ ap (λ (x : ℕ). refusalAfter x m count) (code-of r i e) ∙ sym (halves i m count)

@@ -1,8 +1,8 @@
--- What a call of the run answers, and what the image and RAM then hold (01 "The run and its numbers").
+-- What a call of the run answers, and what the image and memory then hold (01 "The run and its numbers").
 use mathlib.Core.Bool.{Bool, cond}
 use mathlib.Core.List.{List}
 use Prim.Native.Nat.{ℕ}
-use lib.ListN.{length}
+use Rattle.memory.specs.Memory.{Memory}
 use Rattle.image.specs.Image.{machineOf, imageOf}
 use Rattle.run.specs.Run.{Run, runOf}
 use Rattle.image.specs.Refusals.{refusalOf}
@@ -16,7 +16,7 @@ codeOf stop = cond stop 5 0
 
 -- the state after the steps that were completed
 abbrev pub finished : Run → Answer
-finished r = answer (packed (codeOf (r .stop)) (r .steps)) (imageOf (r .last)) (r .last .ram)
+finished r = answer (packed (codeOf (r .stop)) (r .steps)) (imageOf (r .last)) (r .last .memory)
 
-unfoldable pub answerOf : List ℕ → List ℕ → ℕ → Answer
-answerOf m ram count = unlessRefused (refusalOf m (length ram) count) m ram (finished (runOf count (machineOf m ram)))
+unfoldable pub answerOf : List ℕ → Memory → ℕ → Answer
+answerOf i m count = unlessRefused (refusalOf i m count) i m (finished (runOf count (machineOf i m)))

@@ -1,3 +1,4 @@
 pub mod Answer
 pub mod Find
 pub mod Interface
+pub mod Parts

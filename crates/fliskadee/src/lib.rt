@@ -1,12 +1,12 @@
 // What the host in C calls, over lent bytes, words and numbers. Carries 01 "The run and its numbers", and the calls of 02.
 ghost use mathlib.Core.Path.{_≡_};
-ghost use Prim.Native.Nat.{_+_, _*_, _^_};
-ghost use lib.ListN.{length};
-ghost use Rattle.window.specs.Window.{windowAt, windowLength};
+ghost use Rattle.memory.specs.Memory.{memory};
+ghost use Rattle.window.specs.Window.{windowPart};
 ghost use Rattle.causes.specs.Causes.{Causes};
 ghost use Rattle.fliskadee.specs.Find.{answer, findOf};
 ghost use Rattle.fliskadee.specs.Answer.{answerOf};
 ghost use Rattle.fliskadee.specs.Interface.{interfaceNumber};
+ghost use Rattle.fliskadee.specs.Parts.{partNumber};
 use answer::Answer;
 use causes::list_causes;
 use image::admission::read_image;
@@ -16,30 +16,30 @@ use memory::addresses::Virt;
 use run::run_until;
 use window::part_of;
 
-// The run of the machine that an image and RAM describe, ended by a bit of the mask.
-fn run_with(image: &mut [u8], ram: &mut [u8], count: u64, mask: u32) -> u64
-    ensures { λ n. ⌜ answer n (now (image .exit)) (now (ram .exit)) ≡ findOf (now (image .entry)) (now (ram .entry)) count mask ⌝ }
+// The run of the machine that an image, RAM and pad describe, ended by a bit of the mask.
+fn run_with(image: &mut [u8], ram: &mut [u8], pad: &mut [u8], count: u64, mask: u32) -> u64
+    ensures { λ n. ⌜ answer n (now (image .exit)) (memory (now (ram .exit)) (now (pad .exit))) ≡ findOf (now (image .entry)) (memory (now (ram .entry)) (now (pad .entry))) count mask ⌝ }
 {
     let a = read_image(image);
-    let code = refusal(a.code, ram.len(), count);
+    let code = refusal(a.code, ram, pad, count);
     if code != 0 {
         return code * 0x10_0000;
     }
     let first = a.control;
     let mut r = a.registers;
     let mut g = a.geometry;
-    let d = run_until(first, &mut r, &mut g, ram, count, mask);
+    let d = run_until(first, &mut r, &mut g, ram, pad, count, mask);
     let last = d.control;
     write_image(image, last, &r, &g);
     d.code * 0x10_0000 + d.steps
 }
 
-// At most count steps of the machine that an image and RAM describe.
+// At most count steps of the machine that an image, RAM and pad describe.
 #[no_mangle]
-pub extern "C" fn fliskadee_run(image: &mut [u8], ram: &mut [u8], count: u64) -> u64
-    ensures { λ n. ⌜ answer n (now (image .exit)) (now (ram .exit)) ≡ answerOf (now (image .entry)) (now (ram .entry)) count ⌝ }
+pub extern "C" fn fliskadee_run(image: &mut [u8], ram: &mut [u8], pad: &mut [u8], count: u64) -> u64
+    ensures { λ n. ⌜ answer n (now (image .exit)) (memory (now (ram .exit)) (now (pad .exit))) ≡ answerOf (now (image .entry)) (memory (now (ram .entry)) (now (pad .entry))) count ⌝ }
 {
-    run_with(image, ram, count, 0)
+    run_with(image, ram, pad, count, 0)
 }
 
 // The same, ended after the first step at which a bit of the mask comes up in FLAG: code 16.
@@ -47,21 +47,27 @@ pub extern "C" fn fliskadee_run(image: &mut [u8], ram: &mut [u8], count: u64) ->
 pub extern "C" fn fliskadee_find_flag(
     image: &mut [u8],
     ram: &mut [u8],
+    pad: &mut [u8],
     count: u64,
     mask: u32,
 ) -> u64
-    ensures { λ n. ⌜ answer n (now (image .exit)) (now (ram .exit)) ≡ findOf (now (image .entry)) (now (ram .entry)) count mask ⌝ }
+    ensures { λ n. ⌜ answer n (now (image .exit)) (memory (now (ram .exit)) (now (pad .exit))) ≡ findOf (now (image .entry)) (memory (now (ram .entry)) (now (pad .entry))) count mask ⌝ }
 {
-    run_with(image, ram, count, mask)
+    run_with(image, ram, pad, count, mask)
 }
 
-// The RAM window, as C can take it: where it begins in RAM, times 2^32, plus its length.
+// The window, as C can take it: in one number, which memory it is in, where it begins there, and how long it is.
 #[no_mangle]
-pub extern "C" fn fliskadee_window(ram: &[u8], address: u32, n: u64) -> u64
-    ensures { λ r. ⌜ r ≡ windowAt address n (length (now (ram .entry))) * 2 ^ 32 + windowLength address n (length (now (ram .entry))) ⌝ }
+pub extern "C" fn fliskadee_window(ram: &[u8], pad: &[u8], address: u32, n: u64) -> u64
+    ensures { λ r. ⌜ r ≡ partNumber (windowPart (memory (now (ram .entry)) (now (pad .entry))) address n) ⌝ }
 {
-    let p = part_of(Virt(address), n as usize, ram.len());
-    (p.at as u64) * 0x1_0000_0000 + p.length as u64
+    let p = part_of(Virt(address), n as usize, ram.len(), pad.len());
+    let place = (p.at as u64) * 0x1_0000_0000 + p.length as u64;
+    if p.pad {
+        0x8000_0000_0000_0000 + place
+    } else {
+        place
+    }
 }
 
 // Why bits of FLAG are set by a GTE command on the machine of an image: rows of five words.
@@ -77,5 +83,5 @@ pub extern "C" fn fliskadee_causes(image: &[u8], word: u32, words: &mut [u32]) -
 pub extern "C" fn fliskadee_interface() -> u32
     ensures { λ r. ⌜ r ≡ interfaceNumber ⌝ }
 {
-    1
+    2
 }

@@ -1,14 +1,14 @@
 -- What a call that is not refused has passed, of any list of tests and of the run's.
 use Prim.Native.Nat.{ℕ, _≤_}
 use native.Mathlib.Omega.{arith}
-use mathlib.Core.Bool.{Bool, true, false, cond, _&&_, and-eq-true-iff}
+use mathlib.Core.Bool.{Bool, true, false, cond, not, _&&_, and-eq-true-iff}
 use mathlib.Core.List.{List, [], _∷_}
-use mathlib.Core.Path.{_≡_, refl, ap}
+use mathlib.Core.Path.{_≡_, refl, sym, ap}
 use lib.Dec.{eqb, leb}
 use lib.ListN.{length, replicate}
 use borrow.Author.Tests.{eqb-true, leb-true, eq-eqb, ne-eqb, le-leb}
 use Rattle.gte_registers.specs.Registers.{view}
-use Rattle.memory.specs.Addresses.{ramLength}
+use Rattle.memory.specs.Memory.{Memory, MemoryOk}
 use Rattle.cpu_state.specs.State.{state}
 use Rattle.cpu_state.specs.declared.control.Control.{Control}
 use Rattle.image.specs.Image.{imageLength, registersIn, controlIn, geometryIn, controlOf, machineOf}
@@ -55,22 +55,34 @@ at-most most [] c = omega arith
 at-most most ((true else code) ∷ ts) c = at-most most ts (codes most code ts c .rest)
 at-most most ((false else code) ∷ ts) c = codes most code ts c .greatest
 
+-- ---- a test that code makes by its negation
+pub failed : (b : Bool) → not b ≡ true → b ≡ false
+failed true h = sym h
+failed false h = refl
+
+pub held : (b : Bool) → not b ≡ false → b ≡ true
+held true h = refl
+held false h = sym h
+
 -- ---- of a call of the run
-pub record Passed (m : List ℕ) (len count : ℕ) : Type 0 where
-  pub long : length m ≡ imageLength
-  pub formed : wellFormed m ≡ true
-  pub ok : ramLength len ≡ true
+pub record Passed (i : List ℕ) (m : Memory) (count : ℕ) : Type 0 where
+  pub long : length i ≡ imageLength
+  pub formed : wellFormed i ≡ true
+  pub memory : MemoryOk m
   pub most : count ≤ mostSteps
 
-pub passed : (m : List ℕ) (len count : ℕ) → refusalOf m len count ≡ 0 → Passed m len count
+pub passed : (i : List ℕ) (m : Memory) (count : ℕ) → refusalOf i m count ≡ 0 → Passed i m count
 unfolding refusalOf
-passed m len count h =
-    let p = all-pass 4 (imageTests m (lentTests len count)) refl h in
-    record { long = eqb-true _ _ (p .0); formed = p .1 .0; ok = p .1 .1 .0; most = leb-true _ _ (p .1 .1 .1 .0) }
+passed i m count h =
+    let p = all-pass 6 (imageTests i (lentTests m count)) refl h in
+    let q = p .1 .1 in
+    record { long = eqb-true _ _ (p .0); formed = p .1 .0; memory = record { ram = q .0; pad = eqb-true _ _ (q .1 .0) }; most = leb-true _ _ (q .1 .1 .0) }
 
-pub admitted : (m : List ℕ) (len count : ℕ) → Passed m len count → refusalOf m len count ≡ 0
+pub admitted : (i : List ℕ) (m : Memory) (count : ℕ) → Passed i m count → refusalOf i m count ≡ 0
 unfolding refusalOf
-admitted m len count p = none-fails (imageTests m (lentTests len count)) (eq-eqb _ _ (p .long), (p .formed, (p .ok, (le-leb _ _ (p .most), tt))))
+admitted i m count p =
+    none-fails (imageTests i (lentTests m count))
+    (eq-eqb _ _ (p .long), (p .formed, (p .memory .ram, (eq-eqb _ _ (p .memory .pad), (le-leb _ _ (p .most), tt)))))
 
 -- ---- its two halves
 halves-by : (a b : Bool) (n : ℕ) (ts : List Test) → firstOf ((a else 1) ∷ (b else 2) ∷ []) ≡ n → firstOf ((a else 1) ∷ (b else 2) ∷ ts) ≡ cond (eqb n 0) (firstOf ts) n
@@ -80,33 +92,33 @@ halves-by true false n ts h = rw (← h)
 halves-by false b n ts h = rw (← h)
 
 -- the image's refusal comes first, and the others' where there is none
-pub halves : (m : List ℕ) (len count : ℕ) → refusalOf m len count ≡ refusalAfter (imageRefusal m) len count
+pub halves : (i : List ℕ) (m : Memory) (count : ℕ) → refusalOf i m count ≡ refusalAfter (imageRefusal i) m count
 unfolding refusalOf imageRefusal refusalAfter
-halves m len count = halves-by (eqb (length m) imageLength) (wellFormed m) (firstOf (imageTests m [])) (lentTests len count) refl
+halves i m count = halves-by (eqb (length i) imageLength) (wellFormed i) (firstOf (imageTests i [])) (lentTests m count) refl
 
 -- a refused image's code is the call's
-pub accepted-first : (m : List ℕ) (len count : ℕ) → refusalOf m len count ≡ 0 → imageRefusal m ≡ 0
+pub accepted-first : (i : List ℕ) (m : Memory) (count : ℕ) → refusalOf i m count ≡ 0 → imageRefusal i ≡ 0
 unfolding imageRefusal
-accepted-first m len count h = let p = passed m len count h in none-fails (imageTests m []) (eq-eqb _ _ (p .long), (p .formed, tt))
+accepted-first i m count h = let p = passed i m count h in none-fails (imageTests i []) (eq-eqb _ _ (p .long), (p .formed, tt))
 
-pub code-small : (code : ℕ) (m : List ℕ) (len count : ℕ) → code ≡ refusalOf m len count → code ≤ 4
+pub code-small : (code : ℕ) (i : List ℕ) (m : Memory) (count : ℕ) → code ≡ refusalOf i m count → code ≤ 6
 unfolding refusalOf
-code-small code m len count e = rw e (at-most 4 (imageTests m (lentTests len count)) refl)
+code-small code i m count e = rw e (at-most 6 (imageTests i (lentTests m count)) refl)
 
 -- ---- the machine that was read, where the image is accepted
-machine-read : (m x : List ℕ) → imageRefusal m ≡ 0 → state (readOf m .control) (readOf m .registers) (view (readOf m .geometry)) x ≡ machineOf m x
+machine-read : (i : List ℕ) (m : Memory) → imageRefusal i ≡ 0 → state (readOf i .control) (readOf i .registers) (view (readOf i .geometry)) m ≡ machineOf i m
 unfolding imageRefusal readOf
-machine-read m x h =
-    let p = all-pass 2 (imageTests m []) refl h in
-    rw (p .0, formed-view (registersIn m) (controlIn m) (geometryIn m) (p .1 .0))
+machine-read i m h =
+    let p = all-pass 2 (imageTests i []) refl h in
+    rw (p .0, formed-view (registersIn i) (controlIn i) (geometryIn i) (p .1 .0))
 
 -- ---- the same of an answer that is what was read
 pub code-of : (r : Read) (m : List ℕ) → r ≡ readOf m → r .code ≡ imageRefusal m
 unfolding readOf
 code-of r m e = ap (λ (x : Read). x .code) e
 
-pub machine-of : (r : Read) (m x : List ℕ) → r ≡ readOf m → imageRefusal m ≡ 0 → state (r .control) (r .registers) (view (r .geometry)) x ≡ machineOf m x
-machine-of r m x e z = rw e (machine-read m x z)
+pub machine-of : (r : Read) (i : List ℕ) (m : Memory) → r ≡ readOf i → imageRefusal i ≡ 0 → state (r .control) (r .registers) (view (r .geometry)) m ≡ machineOf i m
+machine-of r i m e z = rw e (machine-read i m z)
 
 -- ---- words that were read, where the image is accepted
 pub words-of : (m x ws other : List ℕ) → x ≡ wordsOr m ws other → imageRefusal m ≡ 0 → x ≡ ws

@@ -3,6 +3,7 @@ use mathlib.Core.List.{List, [], _∷_, _++_}
 use Prim.Native.Nat.{ℕ, _+_}
 use lib.ListN.{getD}
 use Rattle.byte_order.specs.Bytes.{wordsAt, bytesOf}
+use Rattle.memory.specs.Memory.{Memory}
 use Rattle.cpu_state.specs.declared.control.Control.{Control}
 use Rattle.cpu_state.specs.State.{State, state}
 
@@ -35,9 +36,9 @@ controlWords c =
     c .product .hi ∷ c .product .lo ∷ c .flow .pc ∷ c .flow .next ∷ c .pending .register ∷ c .pending .value ∷ c .flow .slot
     ∷ c .system .sr ∷ c .system .cause ∷ c .system .epc ∷ c .system .badv ∷ 0 ∷ []
 
--- the machine that an image and RAM describe, and the image of a machine
-abbrev pub machineOf : List ℕ → List ℕ → State
-machineOf m ram = state (controlOf (controlIn m)) (registersIn m) (geometryIn m) ram
+-- the machine that an image and memory describe, and the image of a machine
+abbrev pub machineOf : List ℕ → Memory → State
+machineOf i m = state (controlOf (controlIn i)) (registersIn i) (geometryIn i) m
 
 abbrev pub imageOf : State → List ℕ
 imageOf s = bytesOf (s .registers ++ (controlWords (s .control) ++ s .geometry))

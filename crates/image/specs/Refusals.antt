@@ -1,10 +1,11 @@
--- Which calls are refused, and what is read of an image (01 "The run and its numbers").
+-- Which calls are refused, and what is read of an image (01 "The run and its numbers"; code 6 is of 02, Ticket 1).
 use mathlib.Core.Bool.{Bool, cond}
 use mathlib.Core.List.{List, [], _∷_}
 use Prim.Native.Nat.{ℕ}
 use lib.Dec.{eqb, leb}
 use lib.ListN.{length, replicate}
-use Rattle.memory.specs.Addresses.{ramLength}
+use Rattle.memory.specs.Addresses.{ramLength, padLength}
+use Rattle.memory.specs.Memory.{Memory}
 use Rattle.image.specs.Image.{imageLength, registersIn, controlIn, geometryIn, controlOf}
 use Rattle.image.specs.Formed.{wellFormed}
 use Rattle.image.specs.declared.admission.Read.{Read}
@@ -26,21 +27,22 @@ mostSteps = 1000000
 abbrev pub imageTests : List ℕ → List Test → List Test
 imageTests m ts = (eqb (length m) imageLength else 1) ∷ (wellFormed m else 2) ∷ ts
 
--- those of RAM's length and the count: codes 3 and 4
-abbrev pub lentTests : ℕ → ℕ → List Test
-lentTests len count = (ramLength len else 3) ∷ (leb count mostSteps else 4) ∷ []
+-- those of the lengths of RAM and of the pad, and of the count: codes 3, 6 and 4
+abbrev pub lentTests : Memory → ℕ → List Test
+lentTests m count =
+    (ramLength (length (m .ram)) else 3) ∷ (eqb (length (m .pad)) padLength else 6) ∷ (leb count mostSteps else 4) ∷ []
 
--- codes 1 to 4 are tested in the table's order; 0: the call is not refused
-unfoldable pub refusalOf : List ℕ → ℕ → ℕ → ℕ
-refusalOf m len count = firstOf (imageTests m (lentTests len count))
+-- codes 1, 2, 3, 6 and 4 are tested in this order; 0: the call is not refused
+unfoldable pub refusalOf : List ℕ → Memory → ℕ → ℕ
+refusalOf i m count = firstOf (imageTests i (lentTests m count))
 
 -- ---- the two halves, as code makes them
 unfoldable pub imageRefusal : List ℕ → ℕ
 imageRefusal m = firstOf (imageTests m [])
 
 -- the other tests, where the image's answered 0
-unfoldable pub refusalAfter : ℕ → ℕ → ℕ → ℕ
-refusalAfter code len count = cond (eqb code 0) (firstOf (lentTests len count)) code
+unfoldable pub refusalAfter : ℕ → Memory → ℕ → ℕ
+refusalAfter code m count = cond (eqb code 0) (firstOf (lentTests m count)) code
 
 -- words of an image, or others where it has not the length of an image
 abbrev pub wordsOr : List ℕ → List ℕ → List ℕ → List ℕ

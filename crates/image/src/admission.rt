@@ -1,6 +1,7 @@
 // What is read of an image, and which calls are refused.
 ghost use mathlib.Core.Bool.{cond};
 ghost use mathlib.Core.Path.{_≡_};
+ghost use Rattle.memory.specs.Memory.{memory};
 ghost use Rattle.image.specs.Image.{geometryIn};
 ghost use Rattle.image.specs.Refusals.{wordsOr, imageRefusal, readOf, refusalAfter};
 use crate::bytes::control_from;
@@ -68,16 +69,18 @@ pub fn read_geometry(image: &[u8], g: &mut [u32; 64]) -> u64
     form_code(well_formed(&r, &w, g))
 }
 
-// The run's refusal: that of its image, else 3 for RAM's length or 4 for the count, or 0.
-pub fn refusal(image: u64, len: usize, count: u64) -> u64
-    ensures { λ r. ⌜ r ≡ refusalAfter image len count ⌝ }
+// The run's refusal: that of its image, else 3 for RAM's length, 6 for the pad's or 4 for the count, or 0.
+pub fn refusal(image: u64, ram: &[u8], pad: &[u8], count: u64) -> u64
+    ensures { λ r. ⌜ r ≡ refusalAfter image (memory (now (ram .entry)) (now (pad .entry))) count ⌝ }
 {
     if image != 0 {
         return image;
     }
-    if ram_length(len) {
-        if count <= 1_000_000 { 0 } else { 4 }
-    } else {
-        3
+    if !ram_length(ram.len()) {
+        return 3;
     }
+    if pad.len() != 1024 {
+        return 6;
+    }
+    if count <= 1_000_000 { 0 } else { 4 }
 }

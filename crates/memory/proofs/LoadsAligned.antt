@@ -1,4 +1,4 @@
--- Every kind of load keeps the alignment of an address in its low 29 bits.
+-- Every kind of load keeps the alignment of an address in its low 29 bits and in the pad.
 use Rattle.memory.specs.Loads.{loadAlign}
 use Rattle.memory.specs.declared.loads.LoadKind.{LoadKind}
 use Rattle.memory.specs.declared.loads.LoadKind.the-variants as L

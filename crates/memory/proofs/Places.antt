@@ -1,5 +1,5 @@
--- A place that an address has lies in RAM and keeps the address's alignment, and RAM has room for what stands there.
-use Prim.Native.Nat.{ℕ, suc, _+_, _*_, _/_, _%_, _<_, _≤_}
+-- A place that an address has lies in its memory and keeps the address's alignment, and memory has room for what stands there.
+use Prim.Native.Nat.{ℕ, suc, _+_, _-_, _*_, _/_, _%_, _<_, _≤_}
 use mathlib.Core.Bool.{Bool, true, false, cond, _&&_, and-eq-true-iff}
 use mathlib.Core.List.{List}
 use mathlib.Core.Path.{_≡_, refl, sym, ap, _∙_}
@@ -7,10 +7,10 @@ use native.Mathlib.Omega.{arith}
 use lib.Dec.{eqb, ltb, leb}
 use lib.ListN.{length}
 use borrow.Author.Tests.{eqb-true, eqb-false, ltb-true, leb-true, eq-eqb, lt-ltb, le-ltb}
-use Rattle.memory.specs.Addresses.{ramLength, RamOk, mapped, physicalOf, segmentOf, placeOf, wordInRam, directOf}
+use Rattle.memory.specs.Addresses.{ramLength, RamOk, mapped, physicalOf, padBase, padLength, padMapped, inPad, padAt, beyondRam, segmentOf, placeOf, wordInRam, directOf}
 use Rattle.memory.specs.declared.addresses.Phys.{Phys}
 use Rattle.memory.specs.declared.addresses.Place.{Place}
-use Rattle.memory.specs.declared.addresses.Place.the-variants.{At, Bus, Address}
+use Rattle.memory.specs.declared.addresses.Place.the-variants.{Ram, Pad, Bus, Address}
 use Rattle.memory.specs.declared.addresses.Direct.{Direct}
 use Rattle.memory.specs.declared.addresses.Direct.the-variants as Direct
 
@@ -19,55 +19,121 @@ either : {A : Type 0} (P : A → Type 0) (b : Bool) (x y : A) → (b ≡ true �
 either P true x y f g = f refl
 either P false x y f g = g refl
 
--- ---- the alignment of an address is that of its low 29 bits
-abbrev pub Keeps : ℕ → Type 0
-Keeps align = (a : ℕ) → a % align ≡ 0 → a % 0x2000_0000 % align ≡ 0
+-- ---- the alignment of an address is that of its low 29 bits, and of its place in the pad
+pub record Keeps (align : ℕ) : Type 0 where
+  pub ram : (a : ℕ) → a % align ≡ 0 → a % 0x2000_0000 % align ≡ 0
+  pub pad : (a : ℕ) → a % align ≡ 0 → (a % 0x2000_0000 - padBase) % align ≡ 0
 
 pub keeps-1 : Keeps 1
-keeps-1 a h = omega arith
+keeps-1 = record { ram = λ a h. omega arith; pad = λ a h. omega arith }
 
 pub keeps-2 : Keeps 2
-keeps-2 a h = omega arith
+keeps-2 = record { ram = λ a h. omega arith; pad = λ a h. omega arith }
 
 pub keeps-4 : Keeps 4
-keeps-4 a h = omega arith
+keeps-4 = record { ram = λ a h. omega arith; pad = λ a h. omega arith }
 
--- ---- the place that an address has: the low 29 bits, below the length, of an aligned address
-abbrev Every : (ℕ → Type 0) → Place → Type 0
-Every P (At p) = P (p .0)
-Every P Bus = Unit
-Every P Address = Unit
+-- ---- beyond RAM is the pad, or nothing
+pub record InPad (a : ℕ) (p : Phys) : Type 0 where
+  pub is : p .0 ≡ a % 0x2000_0000
+  pub reached : padMapped a ≡ true
+  pub above : padBase ≤ p .0
+  pub below : p .0 < padBase + padLength
 
-in-segment : (P : ℕ → Type 0) (a len : ℕ) → (a % 0x2000_0000 < len → P (a % 0x2000_0000)) → Every P (segmentOf a len)
+abbrev PadOrBus : ℕ → Place → Type 0
+PadOrBus a (Ram p) = ⊥
+PadOrBus a (Pad p) = InPad a p
+PadOrBus a Bus = Unit
+PadOrBus a Address = ⊥
+
+pad-is : (a : ℕ) → inPad a ≡ true → InPad a (physicalOf a)
+unfolding inPad
+pad-is a e =
+    let t = and-eq-true-iff (padMapped a) _ .0 e in
+    let s = and-eq-true-iff (leb padBase (a % 0x2000_0000)) _ .0 (t .1) in
+    record { is = refl; reached = t .0; above = leb-true _ _ (s .0); below = ltb-true _ _ (s .1) }
+
+pad-or-bus : (a : ℕ) → PadOrBus a (beyondRam a)
+unfolding beyondRam
+pad-or-bus a = either (PadOrBus a) (inPad a) _ _ (pad-is a) (λ i. tt)
+
+pub not-ram : (a : ℕ) (p : Phys) → Ram p ≡ beyondRam a → ⊥
+not-ram a p e = rw (← e) at (pad-or-bus a)
+
+pub not-address : (a : ℕ) → Address ≡ beyondRam a → ⊥
+not-address a e = rw (← e) at (pad-or-bus a)
+
+pub in-pad : (a : ℕ) (p : Phys) → Pad p ≡ beyondRam a → InPad a p
+in-pad a p e = rw (← e) at (pad-or-bus a)
+
+pub pad-aligned : (a align : ℕ) (p : Phys) → Keeps align → a % align ≡ 0 → InPad a p → padAt p % align ≡ 0
+pad-aligned a align p k h i = rw (i .is) (k .pad a h)
+
+-- ---- what the place of an address tells
+pub record InRam (a align len : ℕ) (p : Phys) : Type 0 where
+  pub aligned : a % align ≡ 0
+  pub is : p .0 ≡ a % 0x2000_0000
+  pub reached : mapped a ≡ true
+  pub below : p .0 < len
+
+-- neither in RAM nor an address error
+pub record Beyond (a align : ℕ) (q : Place) : Type 0 where
+  pub aligned : a % align ≡ 0
+  pub is : q ≡ beyondRam a
+
+abbrev pub Tells : ℕ → ℕ → ℕ → Place → Type 0
+Tells a align len (Ram p) = InRam a align len p
+Tells a align len (Pad p) = Beyond a align (Pad p)
+Tells a align len Bus = Beyond a align Bus
+Tells a align len Address = Unit
+
+beyond-tells : (a align len : ℕ) → a % align ≡ 0 → (q : Place) → q ≡ beyondRam a → Tells a align len q
+beyond-tells a align len h (Ram p) e = absurd (not-ram a p e)
+beyond-tells a align len h (Pad p) e = record { aligned = h; is = e }
+beyond-tells a align len h Bus e = record { aligned = h; is = e }
+beyond-tells a align len h Address e = tt
+
+pub segment-tells : (a align len : ℕ) → a % align ≡ 0 → Tells a align len (segmentOf a len)
 unfolding segmentOf
-in-segment P a len f = either (Every P) (mapped a && ltb (a % 0x2000_0000) len) _ _ (λ e. f (ltb-true _ len (and-eq-true-iff (mapped a) _ .0 e .1))) (λ e. tt)
+segment-tells a align len h =
+    either (Tells a align len) (mapped a && ltb (a % 0x2000_0000) len) _ _
+    (λ e.
+    let t = and-eq-true-iff (mapped a) _ .0 e in
+    record { aligned = h; is = refl; reached = t .0; below = ltb-true _ len (t .1) })
+    (λ e. beyond-tells a align len h (beyondRam a) refl)
 
-in-place : (P : ℕ → Type 0) (a align : ℕ) (user : Bool) (len : ℕ) → (a % align ≡ 0 → a % 0x2000_0000 < len → P (a % 0x2000_0000)) → Every P (placeOf a align user len)
+pub place-tells : (a align : ℕ) (user : Bool) (len : ℕ) → Tells a align len (placeOf a align user len)
 unfolding placeOf
-in-place P a align user len f =
-    either (Every P) (eqb (a % align) 0) _ _
-    (λ e. either (Every P) (user && leb 0x8000_0000 a) _ _ (λ u. tt) (λ u. in-segment P a len (f (eqb-true _ 0 e))))
+place-tells a align user len =
+    either (Tells a align len) (eqb (a % align) 0) _ _
+    (λ e. either (Tells a align len) (user && leb 0x8000_0000 a) _ _ (λ u. tt) (λ u. segment-tells a align len (eqb-true _ 0 e)))
     (λ e. tt)
 
-pub below : (a align : ℕ) (user : Bool) (len : ℕ) (p : Phys) → placeOf a align user len ≡ At p → p .0 < len
-below a align user len p e = rw e at (in-place (λ q. q < len) a align user len (λ m h. h))
+in-ram : (a align : ℕ) (user : Bool) (len : ℕ) (p : Phys) → placeOf a align user len ≡ Ram p → InRam a align len p
+in-ram a align user len p e = rw e at (place-tells a align user len)
 
-pub aligned : (a align : ℕ) (user : Bool) (len : ℕ) (p : Phys) → Keeps align → placeOf a align user len ≡ At p → p .0 % align ≡ 0
-aligned a align user len p k e = rw e at (in-place (λ q. q % align ≡ 0) a align user len (λ m h. k a m))
+pub below : (a align : ℕ) (user : Bool) (len : ℕ) (p : Phys) → placeOf a align user len ≡ Ram p → p .0 < len
+below a align user len p e = in-ram a align user len p e .below
 
--- ---- room in RAM
-words-of : (m : List ℕ) → RamOk m → length m % 4 ≡ 0
+pub aligned : (a align : ℕ) (user : Bool) (len : ℕ) (p : Phys) → Keeps align → placeOf a align user len ≡ Ram p → p .0 % align ≡ 0
+aligned a align user len p k e = let i = in-ram a align user len p e in rw (i .is) (k .ram a (i .aligned))
+
+-- ---- room in memory of whole words
+abbrev pub Words : List ℕ → Type 0
+Words m = length m % 4 ≡ 0
+
+pub ram-words : (m : List ℕ) → RamOk m → Words m
 unfolding ramLength
-words-of m ok = eqb-true _ 0 (and-eq-true-iff _ _ .0 ok .0)
+ram-words m ok = eqb-true _ 0 (and-eq-true-iff _ _ .0 ok .0)
 
-pub room-word-of : (m : List ℕ) (at : ℕ) → RamOk m → at < length m → at / 4 * 4 + 4 ≤ length m
-room-word-of m at ok h = let w = words-of m ok in omega arith
+pub room-word-of : (m : List ℕ) (at : ℕ) → Words m → at < length m → at / 4 * 4 + 4 ≤ length m
+room-word-of m at w h = omega arith
 
-pub room-word : (m : List ℕ) (at : ℕ) → RamOk m → at < length m → at % 4 ≡ 0 → at + 4 ≤ length m
-room-word m at ok h e = let w = words-of m ok in omega arith
+pub room-word : (m : List ℕ) (at : ℕ) → Words m → at < length m → at % 4 ≡ 0 → at + 4 ≤ length m
+room-word m at w h e = omega arith
 
-pub room-half : (m : List ℕ) (at : ℕ) → RamOk m → at < length m → at % 2 ≡ 0 → at + 2 ≤ length m
-room-half m at ok h e = let w = words-of m ok in omega arith
+pub room-half : (m : List ℕ) (at : ℕ) → Words m → at < length m → at % 2 ≡ 0 → at + 2 ≤ length m
+room-half m at w h e = omega arith
 
 -- ---- the places in a word
 pub last-of-four : (n : ℕ) → n < 4 → (n ≡ 0 → ⊥) → (n ≡ 1 → ⊥) → (n ≡ 2 → ⊥) → n ≡ 3
@@ -140,17 +206,17 @@ unfolding ramLength wordInRam
 elsewhere len a ok h = elsewhere-by (eqb (a % 4) 0) len a refl (eqb-true _ 0 (and-eq-true-iff _ _ .0 ok .0)) h
 
 -- the place of such a word, in kernel mode
-placed-by : (b d : Bool) (len a : ℕ) (p : Phys) → eqb (a % 4) 0 ≡ b → ltb (a % 0x8000_0000) len ≡ d → len ≤ 2097152 → a < 0x1_0000_0000 → cond (b && d) (Direct.At (physicalOf a)) Direct.Elsewhere ≡ Direct.At p → placeOf a 4 false len ≡ At p
+placed-by : (b d : Bool) (len a : ℕ) (p : Phys) → eqb (a % 4) 0 ≡ b → ltb (a % 0x8000_0000) len ≡ d → len ≤ 2097152 → a < 0x1_0000_0000 → cond (b && d) (Direct.At (physicalOf a)) Direct.Elsewhere ≡ Direct.At p → placeOf a 4 false len ≡ Ram p
 unfolding placeOf segmentOf
 placed-by true true len a p e f n l h =
     let i = ltb-true _ len f in
     let u = less (a % 0x8000_0000) len 2097152 i n in
     let q : physicalOf a ≡ p = cc in
     let g : ltb (a % 0x2000_0000) len ≡ true = rw (low a u) f in
-    rw (e, in-kernel a (eqb (a / 0x2000_0000) 0) refl l (top a u), g) (ap At q)
+    rw (e, in-kernel a (eqb (a / 0x2000_0000) 0) refl l (top a u), g) (ap Ram q)
 placed-by true false len a p e f n l h = let z : _≡_ {A = ℕ} 0 1 = cc in absurd (omega arith)
 placed-by false d len a p e f n l h = let z : _≡_ {A = ℕ} 0 1 = cc in absurd (omega arith)
 
-pub placed : (len a : ℕ) (p : Phys) (r : Direct) → ramLength len ≡ true → a < 0x1_0000_0000 → r ≡ directOf a len → r ≡ Direct.At p → placeOf a 4 false len ≡ At p
+pub placed : (len a : ℕ) (p : Phys) (r : Direct) → ramLength len ≡ true → a < 0x1_0000_0000 → r ≡ directOf a len → r ≡ Direct.At p → placeOf a 4 false len ≡ Ram p
 unfolding wordInRam
 placed len a p r ok l e h = placed-by (eqb (a % 4) 0) (ltb (a % 0x8000_0000) len) len a p refl refl (short len ok) l (sym e ∙ h)

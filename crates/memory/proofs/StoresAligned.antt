@@ -1,4 +1,4 @@
--- Every kind of store keeps the alignment of an address in its low 29 bits.
+-- Every kind of store keeps the alignment of an address in its low 29 bits and in the pad.
 use Rattle.memory.specs.Stores.{storeAlign}
 use Rattle.memory.specs.declared.stores.StoreKind.{StoreKind}
 use Rattle.memory.specs.declared.stores.StoreKind.the-variants as S

@@ -1,14 +1,14 @@
 -- Addresses (01 "Addresses"). A virtual address and a physical one are separate kinds; only the segment translation turns
 -- one into the other.
-use mathlib.Core.Bool.{Bool, true, false, cond, _&&_, _||_}
+use mathlib.Core.Bool.{Bool, true, cond, _&&_, _||_}
 use mathlib.Core.List.{List}
 use mathlib.Core.Path.{_≡_}
-use Prim.Native.Nat.{ℕ, _*_, _/_, _%_, _≤_}
+use Prim.Native.Nat.{ℕ, _+_, _-_, _/_, _%_}
 use lib.Dec.{eqb, ltb, leb}
 use lib.ListN.{length}
 use Rattle.memory.specs.declared.addresses.Phys.{Phys}
 use Rattle.memory.specs.declared.addresses.Place.{Place}
-use Rattle.memory.specs.declared.addresses.Place.the-variants.{At, Bus, Address}
+use Rattle.memory.specs.declared.addresses.Place.the-variants.{Ram, Pad, Bus, Address}
 use Rattle.memory.specs.declared.addresses.Direct.{Direct}
 use Rattle.memory.specs.declared.addresses.Direct.the-variants as D
 
@@ -28,9 +28,31 @@ mapped a = eqb (a / 0x2000_0000) 0 || (eqb (a / 0x2000_0000) 4 || eqb (a / 0x200
 abbrev pub physicalOf : ℕ → Phys
 physicalOf a = record { 0 = a % 0x2000_0000 }
 
--- in RAM of a length, or a bus error
+-- the scratch pad (002; 02, Ticket 1) stands at physical 1F800000h to 1F8003FFh
+abbrev pub padBase : ℕ
+padBase = 0x1f80_0000
+
+abbrev pub padLength : ℕ
+padLength = 1024
+
+-- top three bits 000 and 100 reach it
+abbrev pub padMapped : ℕ → Bool
+padMapped a = eqb (a / 0x2000_0000) 0 || eqb (a / 0x2000_0000) 4
+
+unfoldable pub inPad : ℕ → Bool
+inPad a = padMapped a && (leb padBase (a % 0x2000_0000) && ltb (a % 0x2000_0000) (padBase + padLength))
+
+-- the place in the pad of a physical address of it
+abbrev pub padAt : Phys → ℕ
+padAt p = p .0 - padBase
+
+-- an address that is not in RAM: in the pad, or a bus error
+unfoldable pub beyondRam : ℕ → Place
+beyondRam a = cond (inPad a) (Pad (physicalOf a)) Bus
+
+-- in RAM of a length, or beyond it
 unfoldable pub segmentOf : ℕ → ℕ → Place
-segmentOf a len = cond (mapped a && ltb (a % 0x2000_0000) len) (At (physicalOf a)) Bus
+segmentOf a len = cond (mapped a && ltb (a % 0x2000_0000) len) (Ram (physicalOf a)) (beyondRam a)
 
 -- with KUc = 1 an address with bit 31 set is an address error, and so is one that is not aligned; both before the bus
 unfoldable pub placeOf : ℕ → ℕ → Bool → ℕ → Place

@@ -1,3 +1,4 @@
 pub mod Addresses
+pub mod Memory
 pub mod Stores
 pub mod Loads

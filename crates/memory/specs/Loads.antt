@@ -1,4 +1,4 @@
--- What a load makes of RAM at a physical address in RAM.
+-- What a load makes of memory at the place of an address.
 use mathlib.Core.List.{List}
 use Prim.Native.Nat.{ℕ, _+_, _-_, _*_, _/_, _%_, _^_}
 use lib.ListN.{getD}
@@ -7,6 +7,8 @@ use Rattle.words.specs.Words.{signExtend}
 use Rattle.byte_order.specs.Bytes.{wordAt}
 use Rattle.memory.specs.declared.loads.LoadKind.{LoadKind}
 use Rattle.memory.specs.declared.loads.LoadKind.the-variants as L
+use Rattle.memory.specs.Addresses.{padAt}
+use Rattle.memory.specs.Memory.{Memory}
 use Rattle.memory.specs.declared.addresses.Place.{Place}
 use Rattle.memory.specs.declared.addresses.Place.the-variants as P
 use Rattle.memory.specs.declared.loads.Loaded.{Loaded}
@@ -43,7 +45,19 @@ readOf L.Left m at old = leftOf (wordAt m (at / 4 * 4)) old (at % 4)
 readOf L.Right m at old = rightOf (wordAt m (at / 4 * 4)) old (at % 4)
 
 -- at the place that an address gives
-abbrev pub loadOf : LoadKind → List ℕ → ℕ → Place → Loaded
-loadOf k m old (P.At p) = D.Value (readOf k m (p .0) old)
+abbrev pub loadOf : LoadKind → Memory → ℕ → Place → Loaded
+loadOf k m old (P.Ram p) = D.Value (readOf k (m .ram) (p .0) old)
+loadOf k m old (P.Pad p) = D.Value (readOf k (m .pad) (padAt p) old)
 loadOf k m old P.Bus = D.Bus
 loadOf k m old P.Address = D.Address
+
+-- the same where the pad is not reached
+abbrev pub ramLoadOf : LoadKind → List ℕ → ℕ → Place → Loaded
+ramLoadOf k ram old (P.Ram p) = D.Value (readOf k ram (p .0) old)
+ramLoadOf k ram old (P.Pad p) = D.Bus
+ramLoadOf k ram old P.Bus = D.Bus
+ramLoadOf k ram old P.Address = D.Address
+
+-- a fetch reads a word of RAM; from the pad it is a bus error
+abbrev pub fetchOf : List ℕ → Place → Loaded
+fetchOf ram place = ramLoadOf L.Word ram 0 place

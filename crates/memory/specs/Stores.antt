@@ -1,4 +1,4 @@
--- What a store makes of RAM at a physical address in RAM.
+-- What a store makes of memory at the place of an address.
 use mathlib.Core.List.{List, [], _∷_}
 use Prim.Native.Nat.{ℕ, _+_, _-_, _*_, _/_, _%_}
 use lib.ListN.{set, take, drop}
@@ -6,6 +6,8 @@ use lib.Seq.{sets}
 use Rattle.byte_order.specs.Bytes.{setWord}
 use Rattle.memory.specs.declared.stores.StoreKind.{StoreKind}
 use Rattle.memory.specs.declared.stores.StoreKind.the-variants as S
+use Rattle.memory.specs.Addresses.{padAt}
+use Rattle.memory.specs.Memory.{Memory, memory}
 use Rattle.memory.specs.declared.addresses.Place.{Place}
 use Rattle.memory.specs.declared.addresses.Place.the-variants as P
 use Rattle.memory.specs.declared.stores.Stored.{Stored}
@@ -33,12 +35,27 @@ writeOf S.Right m at x = sets m at (take (4 - at % 4) (bytes4 x))
 
 -- at the place that an address gives
 abbrev pub storeOf : Place → Stored
-storeOf (P.At p) = T.Done
+storeOf (P.Ram p) = T.Done
+storeOf (P.Pad p) = T.Done
 storeOf P.Bus = T.Bus
 storeOf P.Address = T.Address
 
--- a store that is refused changes nothing
+-- a store changes RAM or the pad; one that is refused changes nothing
+abbrev pub memoryAfter : StoreKind → Memory → ℕ → Place → Memory
+memoryAfter k m x (P.Ram p) = memory (writeOf k (m .ram) (p .0) x) (m .pad)
+memoryAfter k m x (P.Pad p) = memory (m .ram) (writeOf k (m .pad) (padAt p) x)
+memoryAfter k m x P.Bus = m
+memoryAfter k m x P.Address = m
+
+-- the same where the pad is not reached
+abbrev pub ramStoreOf : Place → Stored
+ramStoreOf (P.Ram p) = T.Done
+ramStoreOf (P.Pad p) = T.Bus
+ramStoreOf P.Bus = T.Bus
+ramStoreOf P.Address = T.Address
+
 abbrev pub ramAfter : StoreKind → List ℕ → ℕ → Place → List ℕ
-ramAfter k m x (P.At p) = writeOf k m (p .0) x
-ramAfter k m x P.Bus = m
-ramAfter k m x P.Address = m
+ramAfter k ram x (P.Ram p) = writeOf k ram (p .0) x
+ramAfter k ram x (P.Pad p) = ram
+ramAfter k ram x P.Bus = ram
+ramAfter k ram x P.Address = ram

@@ -1,19 +1,20 @@
-// Addresses: segments, alignment, and where in RAM an address lies.
+// Addresses: segments, alignment, and where in RAM or in the scratch pad an address lies.
 ghost use mathlib.Core.Path.{_≡_};
 ghost use Prim.Native.Nat.{_+_, _*_, _/_, _%_, _<_};
 ghost use mathlib.Core.Bool.{true, _&&_};
-ghost use lib.Dec.{leb};
-ghost use Rattle.memory.specs.Addresses.{ramLength, mapped, segmentOf, placeOf, directOf};
+ghost use lib.Dec.{ltb, leb};
+ghost use Rattle.memory.specs.Addresses.{ramLength, mapped, padBase, padLength, inPad, beyondRam, segmentOf, placeOf, directOf};
 
 // A virtual address: PC, or a base plus an offset.
 pub struct Virt(pub u32);
 
-// A physical address: a place among RAM's bytes.
+// A physical address: a place among RAM's bytes, or in the scratch pad.
 pub struct Phys(pub u32);
 
-// Where a virtual address lies: in RAM, a bus error, or an address error.
+// Where a virtual address lies: in RAM, in the scratch pad, a bus error, or an address error.
 pub enum Place {
-    At(Phys),
+    Ram(Phys),
+    Pad(Phys),
     Bus,
     Address,
 }
@@ -48,18 +49,58 @@ fn is_mapped(a: u32) -> bool
     }
 }
 
+fn in_ram(a: u32, len: usize) -> bool
+    ensures { λ r. ⌜ r ≡ (mapped a && ltb (a % 0x2000_0000) len) ⌝ }
+{
+    if is_mapped(a) {
+        ((a % 0x2000_0000) as usize) < len
+    } else {
+        false
+    }
+}
+
+fn pad_holds(p: u32) -> bool
+    ensures { λ r. ⌜ r ≡ (leb padBase p && ltb p (padBase + padLength)) ⌝ }
+{
+    if 0x1f80_0000 <= p {
+        p < 0x1f80_0400
+    } else {
+        false
+    }
+}
+
+fn in_pad(a: u32) -> bool
+    ensures { λ r. ⌜ r ≡ inPad a ⌝ }
+{
+    match a / 0x2000_0000 {
+        0 => pad_holds(a % 0x2000_0000),
+        4 => pad_holds(a % 0x2000_0000),
+        _ => false,
+    }
+}
+
+// The segment translation of an address that is not in RAM.
+pub(crate) fn beyond_ram(v: Virt) -> Place
+    ensures { λ r. ⌜ r ≡ beyondRam (v .0) ⌝ }
+{
+    let a = v.0;
+    if in_pad(a) {
+        Place::Pad(Phys(a % 0x2000_0000))
+    } else {
+        Place::Bus
+    }
+}
+
 // The segment translation, for any address and without a test of mode or alignment.
 pub fn translate(v: Virt, len: usize) -> Place
     ensures { λ r. ⌜ r ≡ segmentOf (v .0) len ⌝ }
 {
     let a = v.0;
-    if is_mapped(a) {
-        let p = a % 0x2000_0000;
-        if (p as usize) < len {
-            return Place::At(Phys(p));
-        }
+    if in_ram(a, len) {
+        Place::Ram(Phys(a % 0x2000_0000))
+    } else {
+        beyond_ram(v)
     }
-    Place::Bus
 }
 
 // The word of an address among RAM's words, in one number: an address that is not aligned, or has one of the bits 29 and

@@ -1,12 +1,15 @@
-// Loads from RAM.
+// Loads from RAM and from the scratch pad, and fetches from RAM.
+ghost use mathlib.Core.List.{List};
 ghost use mathlib.Core.Path.{_≡_};
-ghost use Prim.Native.Nat.{_+_, _%_, _<_, _≤_};
+ghost use Prim.Native.Nat.{ℕ, _+_, _%_, _<_, _≤_};
 ghost use lib.ListN.{length};
-ghost use Rattle.memory.specs.Addresses.{RamOk, placeOf};
-ghost use Rattle.memory.specs.Loads.{loadAlign, halfAt, leftOf, rightOf, readOf, loadOf};
+ghost use Rattle.memory.specs.Addresses.{RamOk, padLength, beyondRam, placeOf};
+ghost use Rattle.memory.specs.Memory.{memory, MemoryOk};
+ghost use Rattle.memory.specs.Loads.{loadAlign, halfAt, leftOf, rightOf, readOf, loadOf, ramLoadOf, fetchOf};
 use crate::addresses::Direct;
 use crate::addresses::Place;
 use crate::addresses::Virt;
+use crate::addresses::beyond_ram;
 use crate::addresses::locate;
 use crate::addresses::translate_word;
 use byte_order::word_at;
@@ -86,34 +89,35 @@ fn merge_right(word: u32, old: u32, n: usize) -> u32
     }
 }
 
-// What a load makes of RAM at a place; old is what its register holds, or what waits for it.
-fn read(k: LoadKind, ram: &[u8], at: usize, old: u32) -> u32
-    requires { ⌜ RamOk (now ram) ⌝ }
-    requires { ⌜ at < length (now ram) ⌝ }
+// What a load makes of memory at a place; old is what its register holds, or what waits for it.
+fn read(k: LoadKind, m: &[u8], at: usize, old: u32) -> u32
+    requires { ⌜ length (now m) % 4 ≡ 0 ⌝ }
+    requires { ⌜ at < length (now m) ⌝ }
     requires { ⌜ at % loadAlign k ≡ 0 ⌝ }
-    ensures { λ r. ⌜ r ≡ readOf k (now (ram .entry)) at old ⌝ }
+    ensures { λ r. ⌜ r ≡ readOf k (now (m .entry)) at old ⌝ }
 {
     match k {
-        LoadKind::Byte => sign_extend_8(wide(ram[at])),
-        LoadKind::ByteUnsigned => wide(ram[at]),
-        LoadKind::Half => sign_extend_16(half_at(ram, at)),
-        LoadKind::HalfUnsigned => half_at(ram, at),
-        LoadKind::Word => word_at(ram, at),
-        LoadKind::Left => merge_left(word_at(ram, at / 4 * 4), old, at % 4),
-        LoadKind::Right => merge_right(word_at(ram, at / 4 * 4), old, at % 4),
+        LoadKind::Byte => sign_extend_8(wide(m[at])),
+        LoadKind::ByteUnsigned => wide(m[at]),
+        LoadKind::Half => sign_extend_16(half_at(m, at)),
+        LoadKind::HalfUnsigned => half_at(m, at),
+        LoadKind::Word => word_at(m, at),
+        LoadKind::Left => merge_left(word_at(m, at / 4 * 4), old, at % 4),
+        LoadKind::Right => merge_right(word_at(m, at / 4 * 4), old, at % 4),
     }
 }
 
-// The tests of an address in their order, for any kind.
+// The tests of an address in their order, for any kind of load from RAM.
 fn load_at(k: LoadKind, ram: &[u8], v: Virt, user: bool, old: u32) -> Loaded
     requires { ⌜ RamOk (now ram) ⌝ }
-    ensures { λ r. ⌜ r ≡ loadOf k (now (ram .entry)) old (placeOf (v .0) (loadAlign k) user (length (now (ram .entry)))) ⌝ }
+    ensures { λ r. ⌜ r ≡ ramLoadOf k (now (ram .entry)) old (placeOf (v .0) (loadAlign k) user (length (now (ram .entry)))) ⌝ }
 {
     match locate(v, load_align(k), user, ram.len()) {
-        Place::At(p) => {
+        Place::Ram(p) => {
             let at = p.0 as usize;
             Loaded::Value(read(k, ram, at, old))
         }
+        Place::Pad(_) => Loaded::Bus,
         Place::Bus => Loaded::Bus,
         Place::Address => Loaded::Address,
     }
@@ -122,7 +126,7 @@ fn load_at(k: LoadKind, ram: &[u8], v: Virt, user: bool, old: u32) -> Loaded
 // A word, which is fetched at every step: one test finds it in RAM in kernel mode.
 fn load_word(ram: &[u8], v: Virt, user: bool, old: u32) -> Loaded
     requires { ⌜ RamOk (now ram) ⌝ }
-    ensures { λ r. ⌜ r ≡ loadOf LoadKind.Word (now (ram .entry)) old (placeOf (v .0) 4 user (length (now (ram .entry)))) ⌝ }
+    ensures { λ r. ⌜ r ≡ ramLoadOf LoadKind.Word (now (ram .entry)) old (placeOf (v .0) 4 user (length (now (ram .entry)))) ⌝ }
 {
     if user {
         return load_at(LoadKind::Word, ram, v, user, old);
@@ -134,14 +138,51 @@ fn load_word(ram: &[u8], v: Virt, user: bool, old: u32) -> Loaded
     load_at(LoadKind::Word, ram, v, user, old)
 }
 
-// One load with all its tests, for the processor: the mode and alignment first (Address), then RAM (Bus). old is what LWL and LWR
-// merge with.
-pub fn load(k: LoadKind, ram: &[u8], v: Virt, user: bool, old: u32) -> Loaded
+fn load_ram(k: LoadKind, ram: &[u8], v: Virt, user: bool, old: u32) -> Loaded
     requires { ⌜ RamOk (now ram) ⌝ }
-    ensures { λ r. ⌜ r ≡ loadOf k (now (ram .entry)) old (placeOf (v .0) (loadAlign k) user (length (now (ram .entry)))) ⌝ }
+    ensures { λ r. ⌜ r ≡ ramLoadOf k (now (ram .entry)) old (placeOf (v .0) (loadAlign k) user (length (now (ram .entry)))) ⌝ }
 {
     match k {
         LoadKind::Word => load_word(ram, v, user, old),
         _ => load_at(k, ram, v, user, old),
     }
+}
+
+// A load from an aligned address that the mode allows and that is not in RAM. It is a function of its own, called where RAM answers
+// a bus error, so that the code for RAM is as short as without a pad. Beyond RAM no place is in RAM, nor an address error.
+fn load_beyond(k: LoadKind, pad: &[u8], v: Virt, old: u32) -> Loaded
+    requires { ⌜ length (now pad) ≡ padLength ⌝ }
+    requires { ⌜ v .0 % loadAlign k ≡ 0 ⌝ }
+    ensures { λ r. ⌜ ((ram : List ℕ) → r ≡ loadOf k (memory ram (now (pad .entry))) old (beyondRam (v .0))) ⌝ }
+{
+    match beyond_ram(v) {
+        Place::Ram(_) => Loaded::Bus,
+        Place::Pad(p) => {
+            let at = (p.0 - 0x1f80_0000) as usize;
+            Loaded::Value(read(k, pad, at, old))
+        }
+        Place::Bus => Loaded::Bus,
+        Place::Address => Loaded::Bus,
+    }
+}
+
+// One load with all its tests, for the processor: the mode and alignment first (Address), then RAM and the pad (Bus). old is what LWL
+// and LWR merge with.
+pub fn load(k: LoadKind, ram: &[u8], pad: &[u8], v: Virt, user: bool, old: u32) -> Loaded
+    requires { ⌜ MemoryOk (memory (now ram) (now pad)) ⌝ }
+    ensures { λ r. ⌜ r ≡ loadOf k (memory (now (ram .entry)) (now (pad .entry))) old (placeOf (v .0) (loadAlign k) user (length (now (ram .entry)))) ⌝ }
+{
+    match load_ram(k, ram, v, user, old) {
+        Loaded::Value(x) => Loaded::Value(x),
+        Loaded::Bus => load_beyond(k, pad, v, old),
+        Loaded::Address => Loaded::Address,
+    }
+}
+
+// The fetch of an instruction, which no memory but RAM answers.
+pub fn fetch(ram: &[u8], v: Virt, user: bool) -> Loaded
+    requires { ⌜ RamOk (now ram) ⌝ }
+    ensures { λ r. ⌜ r ≡ fetchOf (now (ram .entry)) (placeOf (v .0) 4 user (length (now (ram .entry)))) ⌝ }
+{
+    load_word(ram, v, user, 0)
 }

@@ -1,12 +1,15 @@
-// Stores in RAM.
+// Stores in RAM and in the scratch pad.
+ghost use mathlib.Core.List.{List};
 ghost use mathlib.Core.Path.{_≡_};
-ghost use Prim.Native.Nat.{_+_, _*_, _/_, _%_, _<_, _≤_};
+ghost use Prim.Native.Nat.{ℕ, _+_, _*_, _/_, _%_, _<_, _≤_};
 ghost use lib.ListN.{length, set, take, drop};
 ghost use lib.Seq.{sets};
-ghost use Rattle.memory.specs.Addresses.{RamOk, placeOf};
-ghost use Rattle.memory.specs.Stores.{storeAlign, bytes4, writeOf, storeOf, ramAfter};
+ghost use Rattle.memory.specs.Addresses.{RamOk, padLength, beyondRam, placeOf};
+ghost use Rattle.memory.specs.Memory.{memory, MemoryOk};
+ghost use Rattle.memory.specs.Stores.{storeAlign, bytes4, writeOf, storeOf, memoryAfter, ramStoreOf, ramAfter};
 use crate::addresses::Place;
 use crate::addresses::Virt;
+use crate::addresses::beyond_ram;
 use crate::addresses::locate;
 use byte_order::put_word;
 
@@ -19,7 +22,7 @@ pub enum StoreKind {
     Right,
 }
 
-// What a store answers: done, or which error it takes; then RAM is as it was.
+// What a store answers: done, or which error it takes; then memory is as it was.
 pub enum Stored {
     Done,
     Bus,
@@ -114,33 +117,66 @@ fn put_right(m: &mut [u8], at: usize, x: u32)
     }
 }
 
-fn write(k: StoreKind, ram: &mut [u8], at: usize, x: u32)
-    requires { ⌜ RamOk (now ram) ⌝ }
-    requires { ⌜ at < length (now ram) ⌝ }
+// What a store leaves in memory at a place.
+fn write(k: StoreKind, m: &mut [u8], at: usize, x: u32)
+    requires { ⌜ length (now m) % 4 ≡ 0 ⌝ }
+    requires { ⌜ at < length (now m) ⌝ }
     requires { ⌜ at % storeAlign k ≡ 0 ⌝ }
-    ensures { λ _. ⌜ now (ram .exit) ≡ writeOf k (now (ram .entry)) at x ⌝ }
+    ensures { λ _. ⌜ now (m .exit) ≡ writeOf k (now (m .entry)) at x ⌝ }
 {
     match k {
-        StoreKind::Byte => put_byte(ram, at, x),
-        StoreKind::Half => put_half(ram, at, x),
-        StoreKind::Word => put_word(ram, at, x),
-        StoreKind::Left => put_left(ram, at, x),
-        StoreKind::Right => put_right(ram, at, x),
+        StoreKind::Byte => put_byte(m, at, x),
+        StoreKind::Half => put_half(m, at, x),
+        StoreKind::Word => put_word(m, at, x),
+        StoreKind::Left => put_left(m, at, x),
+        StoreKind::Right => put_right(m, at, x),
+    }
+}
+
+// The tests of an address in their order, for any kind of store to RAM.
+fn store_ram(k: StoreKind, ram: &mut [u8], v: Virt, user: bool, x: u32) -> Stored
+    requires { ⌜ RamOk (now ram) ⌝ }
+    ensures is { λ r. ⌜ r ≡ ramStoreOf (placeOf (v .0) (storeAlign k) user (length (now (ram .entry)))) ⌝ }
+    ensures after { λ r. ⌜ now (ram .exit) ≡ ramAfter k (now (ram .entry)) x (placeOf (v .0) (storeAlign k) user (length (now (ram .entry)))) ⌝ }
+{
+    match locate(v, store_align(k), user, ram.len()) {
+        Place::Ram(p) => {
+            write(k, ram, p.0 as usize, x);
+            Stored::Done
+        }
+        Place::Pad(_) => Stored::Bus,
+        Place::Bus => Stored::Bus,
+        Place::Address => Stored::Address,
+    }
+}
+
+// A store to an aligned address that the mode allows and that is not in RAM: a function of its own, as `load_beyond` is.
+fn store_beyond(k: StoreKind, pad: &mut [u8], v: Virt, x: u32) -> Stored
+    requires { ⌜ length (now pad) ≡ padLength ⌝ }
+    requires { ⌜ v .0 % storeAlign k ≡ 0 ⌝ }
+    ensures is { λ r. ⌜ r ≡ storeOf (beyondRam (v .0)) ⌝ }
+    ensures after { λ r. ⌜ ((ram : List ℕ) → memory ram (now (pad .exit)) ≡ memoryAfter k (memory ram (now (pad .entry))) x (beyondRam (v .0))) ⌝ }
+{
+    match beyond_ram(v) {
+        Place::Ram(_) => Stored::Bus,
+        Place::Pad(p) => {
+            write(k, pad, (p.0 - 0x1f80_0000) as usize, x);
+            Stored::Done
+        }
+        Place::Bus => Stored::Bus,
+        Place::Address => Stored::Bus,
     }
 }
 
 // One store with all its tests, for the processor, in the order of a load's.
-pub fn store(k: StoreKind, ram: &mut [u8], v: Virt, user: bool, x: u32) -> Stored
-    requires { ⌜ RamOk (now ram) ⌝ }
+pub fn store(k: StoreKind, ram: &mut [u8], pad: &mut [u8], v: Virt, user: bool, x: u32) -> Stored
+    requires { ⌜ MemoryOk (memory (now ram) (now pad)) ⌝ }
     ensures is { λ r. ⌜ r ≡ storeOf (placeOf (v .0) (storeAlign k) user (length (now (ram .entry)))) ⌝ }
-    ensures after { λ r. ⌜ now (ram .exit) ≡ ramAfter k (now (ram .entry)) x (placeOf (v .0) (storeAlign k) user (length (now (ram .entry)))) ⌝ }
+    ensures after { λ r. ⌜ memory (now (ram .exit)) (now (pad .exit)) ≡ memoryAfter k (memory (now (ram .entry)) (now (pad .entry))) x (placeOf (v .0) (storeAlign k) user (length (now (ram .entry)))) ⌝ }
 {
-    match locate(v, store_align(k), user, ram.len()) {
-        Place::At(p) => {
-            write(k, ram, p.0 as usize, x);
-            Stored::Done
-        }
-        Place::Bus => Stored::Bus,
-        Place::Address => Stored::Address,
+    match store_ram(k, ram, v, user, x) {
+        Stored::Done => Stored::Done,
+        Stored::Bus => store_beyond(k, pad, v, x),
+        Stored::Address => Stored::Address,
     }
 }

@@ -4,19 +4,18 @@ use native.Mathlib.Nat.{add-zero, add-suc}
 use native.Mathlib.Numerals.{add-one}
 use native.Mathlib.Omega.{arith}
 use mathlib.Core.Bool.{Bool, true, false, cond}
-use mathlib.Core.List.{List}
 use mathlib.Core.Path.{_≡_, refl, sym, ap, _∙_}
 use lib.Dec.{eqb}
-use lib.ListN.{length}
+use Rattle.memory.specs.Memory.{SameLengths}
 use Rattle.cpu_state.specs.State.{State}
 use Rattle.cpu_perform.specs.Perform.{Tick, tick}
 use Rattle.cpu_step.specs.Step.{stepOf}
 use Rattle.run.specs.Search.{clearOf, risesOf, foundOf, Search, sought, furtherBy, searchOn, searchOf}
 
 -- what holds after i steps of a search from s₀ that goes on: it is at s
-pub record After (mask count i : ℕ) (clear : Bool) (ram₀ ram : List ℕ) (s₀ s : State) : Type 0 where
+pub record After (mask count i : ℕ) (clear : Bool) (s₀ s : State) : Type 0 where
   pub below : i ≤ count
-  pub long : length ram ≡ length ram₀
+  pub long : SameLengths (s .memory) (s₀ .memory)
   pub flag : clear ≡ clearOf mask s
   pub run : searchOf mask i s₀ ≡ sought 0 i s
 

@@ -1,12 +1,12 @@
-// A run of steps over registers, COP2 words and RAM that the caller lends. It can be ended by a bit of FLAG; with mask 0 it is
-// the plain run, so that one loop serves both and the step is compiled into it. Carries 01 "The run and its numbers": codes 0
+// A run of steps over registers, COP2 words, RAM and pad that the caller lends. It can be ended by a bit of FLAG; with mask 0 it
+// is the plain run, so that one loop serves both and the step is compiled into it. Carries 01 "The run and its numbers": codes 0
 // and 5, and the steps.
 ghost use mathlib.Core.Path.{_≡_};
 ghost use mathlib.Core.Bool.{_&&_, not};
 ghost use Prim.Native.Nat.{_≤_};
 ghost use lib.Bits.{bitAnd};
 ghost use lib.Dec.{eqb};
-ghost use Rattle.memory.specs.Addresses.{RamOk};
+ghost use Rattle.memory.specs.Memory.{memory, MemoryOk};
 ghost use Rattle.gte_registers.specs.Registers.{view, reg};
 ghost use Rattle.cpu_state.specs.State.{state};
 ghost use Rattle.run.specs.Search.{sought, searchOf};
@@ -48,11 +48,12 @@ pub fn run_until(
     r: &mut [u32; 32],
     g: &mut [u32; 64],
     ram: &mut [u8],
+    pad: &mut [u8],
     count: u64,
     mask: u32,
 ) -> Sought
-    requires { ⌜ RamOk (now ram) ⌝ }
-    ensures is { λ d. ⌜ sought (d .code) (d .steps) (state (d .control) (now (r .exit)) (view (now (g .exit))) (now (ram .exit))) ≡ searchOf mask count (state first (now (r .entry)) (view (now (g .entry))) (now (ram .entry))) ⌝ }
+    requires { ⌜ MemoryOk (memory (now ram) (now pad)) ⌝ }
+    ensures is { λ d. ⌜ sought (d .code) (d .steps) (state (d .control) (now (r .exit)) (view (now (g .exit))) (memory (now (ram .exit)) (now (pad .exit)))) ≡ searchOf mask count (state first (now (r .entry)) (view (now (g .entry))) (memory (now (ram .entry)) (now (pad .entry)))) ⌝ }
     ensures within { λ d. ⌜ d .steps ≤ count ⌝ }
     ensures small { λ d. ⌜ d .code ≤ 16 ⌝ }
 {
@@ -60,7 +61,7 @@ pub fn run_until(
     let mut clear = is_clear(g, mask);
     let mut i: u64 = 0;
     while i < count {
-        let d = step(c, r, g, ram);
+        let d = step(c, r, g, ram, pad);
         c = d.control;
         if d.stop {
             return Sought {

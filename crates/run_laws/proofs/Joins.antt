@@ -1,12 +1,11 @@
 -- Laws of runs on machines: one step more, a steps and then b, what every run keeps.
 use Prim.Native.Nat.{ℕ, zero, suc, _+_, _≤_}
 use native.Mathlib.Nat.{add-zero, add-suc}
-use native.Mathlib.Numerals.{add-one}
 use native.Mathlib.Omega.{arith}
 use mathlib.Core.Bool.{Bool, true, false, cond, _||_}
-use mathlib.Core.List.{List}
 use mathlib.Core.Path.{_≡_, refl, sym, ap, ap₂, _∙_}
-use lib.ListN.{length}
+use Rattle.memory.specs.Memory.{SameLengths}
+use Rattle.memory.proofs.Lengths.{same, then-same}
 use Rattle.cpu_state.specs.State.{State}
 use Rattle.cpu_perform.specs.Perform.{Tick, tick}
 use Rattle.cpu_step.specs.Step.{stepOf}
@@ -26,14 +25,14 @@ one-more k s = refl
 -- by the run's stop: what a step more keeps
 pub record Going (n : ℕ) (s : State) (r : Run) : Type 0 where
   pub most : r .steps ≤ n
-  pub long : length (r .last .ram) ≡ length (s .ram)
+  pub long : SameLengths (r .last .memory) (s .memory)
   pub stays : r .stop ≡ true → stepOf (r .last) ≡ tick true (r .last)
 
 tick-is : (t : Tick) (s : State) → t .stop ≡ true → t .after ≡ s → t ≡ tick true s
 tick-is t s h e = ap₂ tick h e
 
 step-on : (n : ℕ) (s : State) (r : Run) (t : Tick) → stepOf (r .last) ≡ t → Kept t (r .last) → Going n s r → Going (suc n) s (further r t)
-step-on n s r t e k g = record { most = by-stop (t .stop); long = k .long ∙ g .long; stays = λ h. again h }
+step-on n s r t e k g = record { most = by-stop (t .stop); long = then-same _ _ _ (k .long) (g .long); stays = λ h. again h }
   where
     by-stop : (b : Bool) → cond b (r .steps) (r .steps + 1) ≤ suc n
     by-stop true = omega (arith, g .most)
@@ -50,7 +49,7 @@ on-by false n s r g = step-on n s r (stepOf (r .last)) refl (step-kept (r .last)
 
 pub run-going : (n : ℕ) (s : State) → Going n s (runOf n s)
 unfolding runOf onwards
-run-going zero s = record { most = omega arith; long = refl; stays = λ h. let z : _≡_ {A = ℕ} 0 1 = ap (λ (b : Bool). cond b 1 0) h in absurd (omega arith) }
+run-going zero s = record { most = omega arith; long = same _; stays = λ h. let z : _≡_ {A = ℕ} 0 1 = ap (λ (b : Bool). cond b 1 0) h in absurd (omega arith) }
 run-going (suc n) s = on-by (runOf n s .stop) n s (runOf n s) (run-going n s)
 
 formed-by : (b : Bool) (r : Run) → StateFormed (r .last) → StateFormed (cond b r (further r (stepOf (r .last))) .last)

@@ -1,20 +1,20 @@
 -- An accepted image describes a formed machine, and the image of a formed machine is accepted and describes it.
-use Prim.Native.Nat.{ℕ, _+_, _*_}
+use Prim.Native.Nat.{ℕ, _+_}
 use native.Mathlib.Omega.{arith}
-use mathlib.Core.Bool.{Bool, true}
 use mathlib.Core.List.{List, _++_}
 use mathlib.Core.Path.{_≡_, refl, sym, ap, _∙_}
 use borrow.Author.Tests.{eqb-true, eq-eqb}
-use lib.ListN.{length, getD, length-append}
-use Rattle.byte_order.specs.Bytes.{wordsAt, bytesOf}
+use lib.ListN.{length, length-append}
+use Rattle.byte_order.specs.Bytes.{wordsAt}
 use Rattle.byte_order.proofs.Rows.{length-bytesOf, length-wordsAt}
 use Rattle.gte_registers.specs.Registers.{reads, WellFormed}
-use Rattle.cpu_state.specs.State.{State, state}
-use Rattle.image.specs.Image.{registersIn, controlIn, geometryIn, controlOf, controlWords, machineOf, imageOf}
-use Rattle.image.specs.Formed.{formed, wellFormed}
-use Rattle.image.proofs.Facts.{Formed, formed-in, formed-out}
+use Rattle.memory.specs.Memory.{Memory}
+use Rattle.cpu_state.specs.State.{State}
+use Rattle.image.specs.Image.{registersIn, controlIn, geometryIn, controlWords, machineOf, imageOf}
+use Rattle.image.specs.Formed.{formed}
+use Rattle.image.proofs.Facts.{formed-in, formed-out}
 use Rattle.image.proofs.Whole.{Back, back}
-use Rattle.step_laws.specs.Formed.{Only, RegistersFormed, PendingFormed, SystemFormed, StateFormed}
+use Rattle.step_laws.specs.Formed.{StateFormed}
 use Rattle.run_laws.specs.Runs.{Accepted, ImageDescribes}
 
 reads-long : (w : List ℕ) → length (reads w) ≡ 64
@@ -25,8 +25,8 @@ pub geometry-long : (w : List ℕ) → WellFormed w → length w ≡ 64
 geometry-long w h = ap length (sym h) ∙ reads-long w
 
 -- ---- in
-pub machine-formed : (m ram : List ℕ) → Accepted m → StateFormed (machineOf m ram)
-machine-formed m ram a =
+pub machine-formed : (m : List ℕ) (x : Memory) → Accepted m → StateFormed (machineOf m x)
+machine-formed m x a =
     let f = formed-in (registersIn m) (controlIn m) (geometryIn m) (a .formed) in
     record {
       registers = record { long = length-wordsAt m 0 32; zero = f .zero };
@@ -49,7 +49,7 @@ control-back s g = parts s g .second
 pub geometry-back : (s : State) → StateFormed s → geometryIn (imageOf s) ≡ s .geometry
 geometry-back s g = ap (wordsAt (imageOf s) 176) (sym (geometry-long (s .geometry) (g .geometry))) ∙ parts s g .third
 
-pub machine-back : (s : State) → StateFormed s → machineOf (imageOf s) (s .ram) ≡ s
+pub machine-back : (s : State) → StateFormed s → machineOf (imageOf s) (s .memory) ≡ s
 machine-back s g = rw (registers-back s g, control-back s g, geometry-back s g)
 
 image-long : (s : State) → StateFormed s → length (imageOf s) ≡ 432

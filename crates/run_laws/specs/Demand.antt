@@ -6,12 +6,11 @@ use Prim.Native.Nat.{ℕ, suc, _≤_}
 use Rattle.cpu_decode.specs.Decode.{decodeOf}
 use Rattle.cpu_decode.specs.Owners.{ownerOf}
 use Rattle.cpu_decode.specs.declared.operations.Op.the-variants.{Command}
-use Rattle.memory.specs.declared.loads.LoadKind.the-variants.{Word}
+use Rattle.memory.specs.Memory.{Memory}
 use Rattle.memory.specs.declared.loads.Loaded.the-variants.{Value}
 use Rattle.cpu_state.specs.System.{usableOf}
 use Rattle.cpu_state.specs.State.{State}
-use Rattle.cpu_perform.specs.Perform.{loaded}
-use Rattle.cpu_step.specs.Step.{stepOf}
+use Rattle.cpu_step.specs.Step.{fetched, stepOf}
 use Rattle.words.specs.Words.{bitAt}
 use Rattle.gte_registers.specs.Registers.{reg}
 use Rattle.gte.specs.Commands.{commandIn, sfOf, outcomeOf}
@@ -24,36 +23,36 @@ use Rattle.run_laws.specs.Runs.{Accepted, stepsIn}
 
 -- the next step carries out a COP2 command word: it is fetched, and usable, so the step takes no exception
 pub record CarriesOut (word : ℕ) (s : State) : Type 0 where
-  pub fetched : loaded Word 0 (s .control .flow .pc) s ≡ Value word
+  pub at-pc : fetched s ≡ Value word
   pub usable : usableOf (ownerOf word) (s .control .system) ≡ true
   pub command : decodeOf word ≡ Command
 
 -- Step k + 1 of any run from an accepted image that the run completes, n being the run's count: the image before the step is what
 -- a run from the same start leaves with count k, the image after it what one leaves with count k + 1.
 
--- Demand 2. Image and RAM after the step are one step of 01 from those before; and where the step carries out a listed command, each
+-- Demand 2. Image, RAM and pad after the step are one step of 01 from those before; and where the step carries out a listed command, each
 -- bit of FLAG is set exactly under its named condition, worked out from the registers before.
-pub record StepExact (m ram : List ℕ) (k : ℕ) : Type 0 where
-  pub goes : stepOf (machineOf (answerOf m ram k .image) (answerOf m ram k .ram)) .stop ≡ false
-  pub image : answerOf m ram (suc k) .image ≡ imageOf (stepOf (machineOf (answerOf m ram k .image) (answerOf m ram k .ram)) .after)
-  pub ram-after : answerOf m ram (suc k) .ram ≡ stepOf (machineOf (answerOf m ram k .image) (answerOf m ram k .ram)) .after .ram
+pub record StepExact (i : List ℕ) (m : Memory) (k : ℕ) : Type 0 where
+  pub goes : stepOf (machineOf (answerOf i m k .image) (answerOf i m k .memory)) .stop ≡ false
+  pub image : answerOf i m (suc k) .image ≡ imageOf (stepOf (machineOf (answerOf i m k .image) (answerOf i m k .memory)) .after)
+  pub memory-after : answerOf i m (suc k) .memory ≡ stepOf (machineOf (answerOf i m k .image) (answerOf i m k .memory)) .after .memory
   pub flag : (word b : ℕ)
-      → CarriesOut word (machineOf (answerOf m ram k .image) (answerOf m ram k .ram))
+      → CarriesOut word (machineOf (answerOf i m k .image) (answerOf i m k .memory))
       → outcomeOf word ≡ Done
-      → bitAt b (reg (geometryIn (answerOf m ram (suc k) .image)) 63) ≡ condition b (checksAt word (geometryIn (answerOf m ram k .image)))
+      → bitAt b (reg (geometryIn (answerOf i m (suc k) .image)) 63) ≡ condition b (checksAt word (geometryIn (answerOf i m k .image)))
 
 abbrev pub Demand2 : Type 0
-Demand2 = (m ram : List ℕ) (n k : ℕ) → Accepted m → suc k ≤ stepsIn (answerOf m ram n) → StepExact m ram k
+Demand2 = (i : List ℕ) (m : Memory) (n k : ℕ) → Accepted i → suc k ≤ stepsIn (answerOf i m n) → StepExact i m k
 
 -- Demand 3. The step carries out RTPS or RTPT with sf = 1, and bit 31 of register 63 is clear after it. Then each vertex v, which
 -- went to register r, is near its exact place, which `Near` works out from the registers before.
 abbrev pub Demand3 : Type 0
 Demand3 =
-    (m ram : List ℕ) (n k word v r : ℕ)
-    → Accepted m
-    → suc k ≤ stepsIn (answerOf m ram n)
-    → CarriesOut word (machineOf (answerOf m ram k .image) (answerOf m ram k .ram))
+    (i : List ℕ) (m : Memory) (n k word v r : ℕ)
+    → Accepted i
+    → suc k ≤ stepsIn (answerOf i m n)
+    → CarriesOut word (machineOf (answerOf i m k .image) (answerOf i m k .memory))
     → sfOf word ≡ true
-    → bitAt 31 (reg (geometryIn (answerOf m ram (suc k) .image)) 63) ≡ false
+    → bitAt 31 (reg (geometryIn (answerOf i m (suc k) .image)) 63) ≡ false
     → Goes (commandIn word) v r
-    → Near tolerance (geometryIn (answerOf m ram k .image)) v (reg (geometryIn (answerOf m ram (suc k) .image)) r)
+    → Near tolerance (geometryIn (answerOf i m k .image)) v (reg (geometryIn (answerOf i m (suc k) .image)) r)

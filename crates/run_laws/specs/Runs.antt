@@ -1,12 +1,12 @@
 -- Laws of runs: one step more, a steps and then b, an accepted image is accepted again (demand 1), and count 0.
-use mathlib.Core.Bool.{Bool, true, cond, _||_}
+use mathlib.Core.Bool.{true, cond, _||_}
 use mathlib.Core.List.{List}
 use mathlib.Core.Path.{_≡_}
 use Prim.Native.Nat.{ℕ, suc, _+_, _/_, _%_, _<_, _≤_}
 use lib.Dec.{eqb}
 use lib.ListN.{length, getD}
 use Rattle.cpu_state.specs.State.{State}
-use Rattle.memory.specs.Addresses.{ramLength}
+use Rattle.memory.specs.Memory.{Memory, SameLengths}
 use Rattle.image.specs.Image.{imageLength, machineOf, imageOf}
 use Rattle.image.specs.Formed.{wellFormed}
 use Rattle.step_laws.specs.Formed.{StateFormed}
@@ -31,14 +31,14 @@ ThenMore = (a b : ℕ) (s : State) → runOf (a + b) s ≡ joined (runOf a s) (r
 -- ---- on images, as a host sees them
 
 -- codes 1 and 2 do not refuse it
-pub record Accepted (m : List ℕ) : Type 0 where
-  pub long : length m ≡ imageLength
-  pub formed : wellFormed m ≡ true
+pub record Accepted (i : List ℕ) : Type 0 where
+  pub long : length i ≡ imageLength
+  pub formed : wellFormed i ≡ true
 
 -- the image of a machine that an accepted image describes is accepted, and describes that machine
 pub record Described (s : State) : Type 0 where
   pub accepted : Accepted (imageOf s)
-  pub back : machineOf (imageOf s) (s .ram) ≡ s
+  pub back : machineOf (imageOf s) (s .memory) ≡ s
 
 abbrev pub ImageDescribes : Type 0
 ImageDescribes = (s : State) → StateFormed s → Described s
@@ -50,46 +50,45 @@ codeIn a = a .number / 1048576
 abbrev pub stepsIn : Answer → ℕ
 stepsIn a = a .number % 1048576
 
--- an answer leaves an accepted image, and RAM as long as it was
-pub record Again (ram : List ℕ) (a : Answer) : Type 0 where
+-- an answer leaves an accepted image, and RAM and pad as long as they were
+pub record Again (m : Memory) (a : Answer) : Type 0 where
   pub accepted : Accepted (a .image)
-  pub long : length (a .ram) ≡ length ram
+  pub long : SameLengths (a .memory) m
 
 -- every call of the run leaves an accepted image accepted, and so does every search for a bit of FLAG
 abbrev pub AcceptedAgain : Type 0
-AcceptedAgain = (m ram : List ℕ) (count : ℕ) → Accepted m → Again ram (answerOf m ram count)
+AcceptedAgain = (i : List ℕ) (m : Memory) (count : ℕ) → Accepted i → Again m (answerOf i m count)
 
 abbrev pub FoundAgain : Type 0
-FoundAgain = (m ram : List ℕ) (count mask : ℕ) → Accepted m → Again ram (findOf m ram count mask)
+FoundAgain = (i : List ℕ) (m : Memory) (count mask : ℕ) → Accepted i → Again m (findOf i m count mask)
 
--- a steps and then b from what they left are a + b steps: in image, RAM, steps and code
+-- a steps and then b from what they left are a + b steps: in image, memory, steps and code
 pub record Cut (first second whole : Answer) : Type 0 where
   pub image : whole .image ≡ second .image
-  pub ram : whole .ram ≡ second .ram
+  pub memory : whole .memory ≡ second .memory
   pub steps : stepsIn whole ≡ stepsIn first + stepsIn second
   pub code : codeIn whole ≡ cond (eqb (codeIn first) 5) 5 (codeIn second)
 
 abbrev pub CutInTwo : Type 0
 CutInTwo =
-    (m ram : List ℕ) (a b : ℕ)
-    → Accepted m
-    → ramLength (length ram) ≡ true
+    (i : List ℕ) (m : Memory) (a b : ℕ)
+    → refusalOf i m a ≡ 0
     → a + b ≤ mostSteps
-    → Cut (answerOf m ram a) (answerOf (answerOf m ram a .image) (answerOf m ram a .ram) b) (answerOf m ram (a + b))
+    → Cut (answerOf i m a) (answerOf (answerOf i m a .image) (answerOf i m a .memory) b) (answerOf i m (a + b))
 
 -- every element is a byte, as in lent memory
 abbrev pub Bytes : List ℕ → Type 0
 Bytes m = (i : ℕ) → getD m i 0 < 256
 
--- "If none of 1 to 4 applies, count 0 answers 0 and changes nothing."
+-- "If none of 1 to 4 applies, count 0 answers 0 and changes nothing."; code 6 is now one of them
 abbrev pub CountZero : Type 0
-CountZero = (m ram : List ℕ) → Bytes m → refusalOf m (length ram) 0 ≡ 0 → answerOf m ram 0 ≡ answer 0 m ram
+CountZero = (i : List ℕ) (m : Memory) → Bytes i → refusalOf i m 0 ≡ 0 → answerOf i m 0 ≡ answer 0 i m
 
 -- a run that completes no step, as one that stops before its first, changes nothing
 abbrev pub NothingDone : Type 0
 NothingDone =
-    (m ram : List ℕ) (count : ℕ)
-    → Bytes m
-    → Accepted m
-    → stepsIn (answerOf m ram count) ≡ 0
-    → (answerOf m ram count .image ≡ m) × (answerOf m ram count .ram ≡ ram)
+    (i : List ℕ) (m : Memory) (count : ℕ)
+    → Bytes i
+    → Accepted i
+    → stepsIn (answerOf i m count) ≡ 0
+    → (answerOf i m count .image ≡ i) × (answerOf i m count .memory ≡ m)

@@ -26,7 +26,7 @@ use Rattle.byte_order.specs.Bytes.{wordAt, bytesOf}
 use Rattle.cpu_decode.specs.Decode.{specials, primaries, decodeOf}
 use Rattle.cpu_decode.specs.Owners.{owners, ownerOf}
 use Rattle.cpu_alu.specs.Alu.{sumOf}
-use Rattle.memory.specs.Addresses.{mapped, segmentOf, placeOf}
+use Rattle.memory.specs.Addresses.{mapped, inPad, beyondRam, segmentOf, placeOf}
 use Rattle.memory.specs.Loads as M
 use Rattle.cpu_decode.specs.Fields as F
 use Rattle.cpu_execute.specs.Execute as I
@@ -39,5 +39,5 @@ use Rattle.cpu_step.specs.Step.{issueOf, stepOf}
 use Rattle.step_laws.specs.Figures.{Figure, figures}
 
 pub bench-figures : map (λ (f : Figure). f .got) figures ≡ map (λ (f : Figure). f .said) figures
-unfolding figures modZ wrap clamp or flags flagWord macOf irOf depthOf screenOf factorOf entryOf refined quotient ratioOf leadingZeros rowOf productOf lineChecksAt lineOf exactOf farOf pairOf screenChecks onScreen vertexChecks vertexOf windingOf averageChecks averageOf squaresOf kinds readOf reads short half field fieldsOf leadingFrom leading pushedXY spreadFields written writeOf matrixOf vectorOf longOf cornerOf inputsOf rotated squareOf commands leaves outcomeOf commandOf stored flagged pushedZ lineLeft pushedVertex vertexKept vertexLeft windingLeft averageLeft wordAt bytesOf specials primaries decodeOf owners ownerOf sumOf mapped segmentOf placeOf M.readOf F.fieldsOf I.executeOf C.usableOf X.raisedSystem X.vectorOf X.raisedOf writeStep trapStep performOf issueOf stepOf
+unfolding figures modZ wrap clamp or flags flagWord macOf irOf depthOf screenOf factorOf entryOf refined quotient ratioOf leadingZeros rowOf productOf lineChecksAt lineOf exactOf farOf pairOf screenChecks onScreen vertexChecks vertexOf windingOf averageChecks averageOf squaresOf kinds readOf reads short half field fieldsOf leadingFrom leading pushedXY spreadFields written writeOf matrixOf vectorOf longOf cornerOf inputsOf rotated squareOf commands leaves outcomeOf commandOf stored flagged pushedZ lineLeft pushedVertex vertexKept vertexLeft windingLeft averageLeft wordAt bytesOf specials primaries decodeOf owners ownerOf sumOf mapped inPad beyondRam segmentOf placeOf M.readOf F.fieldsOf I.executeOf C.usableOf X.raisedSystem X.vectorOf X.raisedOf writeStep trapStep performOf issueOf stepOf
 bench-figures = refl

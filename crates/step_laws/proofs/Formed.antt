@@ -1,19 +1,17 @@
 -- A step keeps the machine formed, whatever it does: one law for each part of the state, and one for each effect.
-use Prim.Native.Nat.{ℕ, zero, suc, _+_, _*_, _/_, _%_, _^_, _<_, _≤_}
+use Prim.Native.Nat.{ℕ, zero, suc, _+_, _*_, _/_, _%_, _<_}
 use native.Mathlib.Omega.{arith}
 use mathlib.Core.Bool.{Bool, true, false, cond}
 use mathlib.Core.List.{List, [], _∷_}
-use mathlib.Core.Path.{_≡_, refl, sym, ap, _∙_}
+use mathlib.Core.Path.{_≡_, refl, _∙_}
 use lib.Bits.{bitAnd}
 use lib.Dec.{eqb}
 use lib.ListN.{length, getD, set, length-set}
 use borrow.Author.Tests.{eqb-false}
-use Rattle.tables.specs.Table.{_⇒_, lookup}
 use Rattle.cpu_alu.specs.declared.mul_div.HiLo.{HiLo}
 use Rattle.memory.specs.Addresses.{placeOf}
-use Rattle.memory.specs.Loads.{loadAlign, loadOf}
-use Rattle.memory.specs.Stores.{storeAlign, storeOf, ramAfter}
-use Rattle.memory.specs.declared.loads.LoadKind.{LoadKind}
+use Rattle.memory.specs.Memory.{Memory}
+use Rattle.memory.specs.Stores.{storeAlign, storeOf, memoryAfter}
 use Rattle.memory.specs.declared.loads.LoadKind.the-variants as K
 use Rattle.memory.specs.declared.loads.Loaded.{Loaded}
 use Rattle.memory.specs.declared.loads.Loaded.the-variants as L
@@ -42,9 +40,9 @@ use Rattle.cpu_effects.specs.Delay.{landed, landedUnless, withRegister, pending
 use Rattle.cpu_effects.specs.Effects.{nextStep, writeStep, productStep, systemStep, waitStep}
 use Rattle.cpu_effects.specs.Jumps.{jumpStep, linkStep}
 use Rattle.cpu_effects.specs.Traps.{trapStep, faultStep}
-use Rattle.cpu_perform.specs.Perform.{Tick, tick, geometryStep, loaded, afterLoad, loadStep, loadGeometryStep, afterStore, storeStep, performOf}
-use Rattle.cpu_step.specs.Step.{afterCommand, commandStep, issueOf, afterFetch, stepOf}
-use Rattle.step_laws.specs.Formed.{Only, RegistersFormed, PendingFormed, SystemFormed, StateFormed, StepFormed}
+use Rattle.cpu_perform.specs.Perform.{tick, geometryStep, loaded, afterLoad, loadStep, loadGeometryStep, afterStore, storeStep, performOf}
+use Rattle.cpu_step.specs.Step.{afterCommand, commandStep, issueOf, fetched, afterFetch, stepOf}
+use Rattle.step_laws.specs.Formed.{RegistersFormed, PendingFormed, SystemFormed, StateFormed, StepFormed}
 use Rattle.step_laws.proofs.Masks.{masked, sr-low, cause-raised, cause-written}
 
 -- ---- registers
@@ -148,17 +146,17 @@ product-formed s g h = record { registers = lands s g; pending = none-formed; sl
 fault-formed : (s : State) → StateFormed s → (code a : ℕ) → StateFormed (faultStep code a s)
 unfolding faultStep
 fault-formed s g code a =
-    trap-formed (state (withBadAddress a (s .control)) (s .registers) (s .geometry) (s .ram))
+    trap-formed (state (withBadAddress a (s .control)) (s .registers) (s .geometry) (s .memory))
     (record { registers = g .registers; pending = g .pending; slot = g .slot; system = record { sr = g .system .sr; cause = g .system .cause }; geometry = g .geometry })
     code 0
 
--- other RAM, other COP2 words
-ram-formed : (s : State) (m : List ℕ) → StateFormed s → StateFormed (state (s .control) (s .registers) (s .geometry) m)
-ram-formed s m g = record { registers = g .registers; pending = g .pending; slot = g .slot; system = g .system; geometry = g .geometry }
+-- other memory, other COP2 words
+memory-formed : (s : State) (m : Memory) → StateFormed s → StateFormed (state (s .control) (s .registers) (s .geometry) m)
+memory-formed s m g = record { registers = g .registers; pending = g .pending; slot = g .slot; system = g .system; geometry = g .geometry }
 
 geometry-formed : (s : State) (w : List ℕ) → StateFormed s → WellFormed w → StateFormed (geometryStep w s)
 geometry-formed s w g h =
-    next-formed (state (s .control) (s .registers) w (s .ram))
+    next-formed (state (s .control) (s .registers) w (s .memory))
     (record { registers = g .registers; pending = g .pending; slot = g .slot; system = g .system; geometry = h })
 
 load-formed : (s : State) → StateFormed s → (f : ℕ → State) → ((x : ℕ) → StateFormed (f x)) → (a : ℕ) (l : Loaded) → StateFormed (afterLoad f a s l)
@@ -174,8 +172,8 @@ store-formed s g a S.Address = fault-formed s g 5 a
 stored-formed : (s : State) → StateFormed s → (k : StoreKind) (x a : ℕ) → StateFormed (storeStep k x a s)
 unfolding storeStep
 stored-formed s g k x a =
-    let at = placeOf a (storeAlign k) (userOf (s .control .system)) (length (s .ram)) in
-    store-formed (state (s .control) (s .registers) (s .geometry) (ramAfter k (s .ram) x at)) (ram-formed s (ramAfter k (s .ram) x at) g) a (storeOf at)
+    let at = placeOf a (storeAlign k) (userOf (s .control .system)) (length (s .memory .ram)) in
+    store-formed (state (s .control) (s .registers) (s .geometry) (memoryAfter k (s .memory) x at)) (memory-formed s (memoryAfter k (s .memory) x at) g) a (storeOf at)
 
 after-formed : (o : Outcome) (word : ℕ) (s : State) → StateFormed s → StateFormed (afterCommand o word s .after)
 after-formed O.Done word s g = geometry-formed s (commandOf word (s .geometry)) g (command-formed word (s .geometry) (g .geometry))
@@ -219,4 +217,4 @@ fetch-formed s g L.Address = fault-formed s g 4 (s .control .flow .pc)
 
 pub step-formed : StepFormed
 unfolding stepOf
-step-formed s g = fetch-formed s g (loaded K.Word 0 (s .control .flow .pc) s)
+step-formed s g = fetch-formed s g (fetched s)

@@ -6,6 +6,7 @@ use Rattle.gte_division.specs.Division.{ratioOf}
 use Rattle.gte_registers.specs.Registers.{reg, writeOf}
 use Rattle.gte.specs.Commands.{commandOf}
 use Rattle.byte_order.specs.Bytes.{bytesOf}
+use Rattle.memory.specs.Memory.{memory}
 use Rattle.cpu_state.specs.System.{none}
 use Rattle.cpu_state.specs.declared.control.Control.{Control}
 use Rattle.cpu_state.specs.State.{State, state}
@@ -45,7 +46,7 @@ atStart =
 
 -- one step of an instruction of two registers into register 3, with x in register 1 and y in register 2
 abbrev pub combined : ℕ → ℕ → ℕ → State
-combined word x y = stepOf (state atStart (filled ((1 ≔ x) ∷ (2 ≔ y) ∷ []) (zeros 32)) (zeros 64) (bytesOf (word ∷ []))) .after
+combined word x y = stepOf (state atStart (filled ((1 ≔ x) ∷ (2 ≔ y) ∷ []) (zeros 32)) (zeros 64) (memory (bytesOf (word ∷ [])) [])) .after
 
 -- the exception code, and register 3
 abbrev pub trapped : State → List ℕ

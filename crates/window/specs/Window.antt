@@ -1,50 +1,68 @@
--- The RAM window (01 "The run and its numbers"): a part of the lent RAM itself, empty exactly when the length is 0, the RAM
--- length is bad, or some byte is not in RAM.
-use mathlib.Core.Bool.{Bool, true, cond}
+-- The window over lent memory (01 "The run and its numbers"; 02, Ticket 1): a part of RAM or of the scratch pad itself, empty exactly
+-- when the length is 0, a buffer's length is bad, or the range is not wholly in one of them.
+use mathlib.Core.Bool.{Bool, true, false, cond, _&&_}
 use mathlib.Core.List.{List}
 use mathlib.Core.Path.{_≡_}
 use Prim.Native.Nat.{ℕ, _+_, _-_, _%_, _<_}
-use lib.Dec.{leb}
+use lib.Dec.{eqb, leb}
 use lib.ListN.{length, take, drop}
-use Rattle.memory.specs.Addresses.{ramLength, segmentOf, physicalOf}
+use Rattle.memory.specs.Addresses.{ramLength, padBase, padLength, padAt, segmentOf, physicalOf}
+use Rattle.memory.specs.Memory.{Memory}
 use Rattle.memory.specs.declared.addresses.Place.{Place}
-use Rattle.memory.specs.declared.addresses.Place.the-variants.{At, Bus, Address}
+use Rattle.memory.specs.declared.addresses.Place.the-variants.{Ram, Pad, Bus, Address}
 use Rattle.window.specs.declared.Part.{Part}
 
-abbrev pub nothing : Part
-nothing = record { at = 0; length = 0 }
+abbrev pub part : Bool → ℕ → ℕ → Part
+part pad at n = record { pad = pad; at = at; length = n }
 
--- n bytes from a place in RAM on, where so many are left
-unfoldable pub partFrom : ℕ → ℕ → ℕ → Part
-partFrom at n len = cond (leb n (len - at)) (record { at = at; length = n }) nothing
+abbrev pub nothing : Part
+nothing = part false 0 0
+
+-- n bytes from a place on in memory of length len, where so many are left
+unfoldable pub partFrom : Bool → ℕ → ℕ → ℕ → Part
+partFrom pad at n len = cond (leb n (len - at)) (part pad at n) nothing
 
 abbrev pub partAt : Place → ℕ → ℕ → Part
-partAt (At p) n len = partFrom (p .0) n len
+partAt (Ram p) n len = partFrom false (p .0) n len
+partAt (Pad p) n len = partFrom true (padAt p) n padLength
 partAt Bus n len = nothing
 partAt Address n len = nothing
 
--- where the window of an address and a length lies in RAM of length len
-unfoldable pub partOf : ℕ → ℕ → ℕ → Part
-partOf a n len = cond (ramLength len) (partAt (segmentOf a len) n len) nothing
+-- lengths of RAM and pad that are run
+abbrev pub goodLengths : ℕ → ℕ → Bool
+goodLengths ram pad = ramLength ram && eqb pad padLength
 
-abbrev pub windowAt : ℕ → ℕ → ℕ → ℕ
-windowAt a n len = partOf a n len .at
+-- where the window of an address and a length lies, in RAM and a pad of these lengths
+unfoldable pub partOf : ℕ → ℕ → ℕ → ℕ → Part
+partOf a n ram pad = cond (goodLengths ram pad) (partAt (segmentOf a ram) n ram) nothing
 
-abbrev pub windowLength : ℕ → ℕ → ℕ → ℕ
-windowLength a n len = partOf a n len .length
+abbrev pub windowPart : Memory → ℕ → ℕ → Part
+windowPart m a n = partOf a n (length (m .ram)) (length (m .pad))
 
-abbrev pub windowOf : List ℕ → ℕ → ℕ → List ℕ
-windowOf m a n = take (windowLength a n (length m)) (drop (windowAt a n (length m)) m)
+-- of two things, the one of the memory that a part is in
+abbrev pub chosen : {A : Type 0} → Part → A → A → A
+chosen p ram pad = cond (p .pad) pad ram
 
--- ---- what 01 asks of it, byte by byte: addresses go modulo 2^32
-abbrev pub InRam : ℕ → ℕ → Type 0
-InRam a len = segmentOf a len ≡ At (physicalOf a)
+abbrev pub bytesIn : Part → Memory → List ℕ
+bytesIn p m = take (p .length) (drop (p .at) (chosen p (m .ram) (m .pad)))
 
+-- ---- what is asked of it, byte by byte: addresses go modulo 2^32
 abbrev pub AllInRam : ℕ → ℕ → ℕ → Type 0
-AllInRam a n len = (i : ℕ) → i < n → InRam ((a + i) % 0x1_0000_0000) len
+AllInRam a n ram = (i : ℕ) → i < n → segmentOf ((a + i) % 0x1_0000_0000) ram ≡ Ram (physicalOf ((a + i) % 0x1_0000_0000))
 
--- "empty exactly when", both ways. Where the length is not 0, the RAM length is good and every byte is in RAM, the part is the whole
--- range from its first byte on; and where the part is not empty, all three hold.
-pub record WindowExact (a n len : ℕ) : Type 0 where
-  pub whole : 0 < n → ramLength len ≡ true → AllInRam a n len → partOf a n len ≡ record { at = a % 0x2000_0000; length = n }
-  pub only : 0 < windowLength a n len → (0 < n) × ((ramLength len ≡ true) × AllInRam a n len)
+abbrev pub AllInPad : ℕ → ℕ → ℕ → Type 0
+AllInPad a n ram = (i : ℕ) → i < n → segmentOf ((a + i) % 0x1_0000_0000) ram ≡ Pad (physicalOf ((a + i) % 0x1_0000_0000))
+
+-- what a part that is not empty tells
+pub record NotEmpty (p : Part) (a n ram pad : ℕ) : Type 0 where
+  pub some : 0 < n
+  pub lengths : goodLengths ram pad ≡ true
+  pub in-ram : p .pad ≡ false → AllInRam a n ram
+  pub in-pad : p .pad ≡ true → AllInPad a n ram
+
+-- "empty exactly when", both ways and for both memories. Where the length is not 0, both buffers' lengths are good and every byte is in
+-- one memory, the part is the whole range there, from its first byte on; and where a part is not empty, all of that holds.
+pub record WindowExact (a n ram pad : ℕ) : Type 0 where
+  pub in-ram : 0 < n → goodLengths ram pad ≡ true → AllInRam a n ram → partOf a n ram pad ≡ part false (a % 0x2000_0000) n
+  pub in-pad : 0 < n → goodLengths ram pad ≡ true → AllInPad a n ram → partOf a n ram pad ≡ part true (a % 0x2000_0000 - padBase) n
+  pub only : 0 < partOf a n ram pad .length → NotEmpty (partOf a n ram pad) a n ram pad

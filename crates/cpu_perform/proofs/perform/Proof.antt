@@ -1,11 +1,13 @@
 -- Each effect is a clause of the definition, and what is called for it does that step.
 use borrow.Author.Needs.{needs}
-use Rattle.cpu_perform.specs.Perform.{performOf}
+use mathlib.Core.Bool.{false}
+use mathlib.Core.Path.{ap}
+use Rattle.cpu_perform.specs.Perform.{tick, storeStep, performOf}
 use Rattle.cpu_perform.proofs.perform.Statement.{statement}
 use Rattle.cpu_perform.proofs.perform.Tie as tie
 
 pub perform-spec : {M : Type 1} → statement M
-unfolding performOf
+unfolding performOf storeStep
 perform-spec =
     tie.close
     (tie.spec
@@ -21,13 +23,9 @@ perform-spec =
     (λ c κs. search needs)
     (λ c. search needs)
     (λ c κs. search needs)
-    (λ c. search needs)
-    (λ c κs. search needs)
-    (λ c. search needs)
     (λ c κs. search needs)
     (λ c κs. search needs)
     (λ c. search needs)
-    (λ c κs. search needs)
     (λ c κs. search needs)
     (λ c. search needs)
     (λ c κs. search needs)
@@ -37,10 +35,18 @@ perform-spec =
     (λ c κs. search needs)
     (λ c. search needs)
     (λ c κs. search needs)
+    (λ c κs. search needs)
+    (λ c. search needs)
+    (λ c κs. search needs)
+    (λ c κs. search needs)
+    (λ c. search needs)
+    (λ c κs. search needs)
     (λ c. search needs)
     (λ c. search needs)
     (λ c κs. search needs)
     (λ c. search needs)
+    (λ c κs. search needs)
+    (λ c κs. search needs)
     (λ c κs. search needs)
     (λ c κs. search needs)
     (λ c. rw (c .before .before .before .e .given .1, c .do-write .ensures _ _))
@@ -48,9 +54,11 @@ perform-spec =
     (λ c. rw (c .before .before .before .e3 .given .1, c .do-link .ensures _ _))
     (λ c. rw (c .before .before .before .e4 .given .1, c .do-product .ensures _ _))
     (λ c. search needs)
-    (λ c. rw (c .before .before .before .before .e5 .given .1, c .do-load .ensures _))
     (λ c. search needs)
-    (λ c. rw (c .before .before .before .before .before .before .e6 .given .1, c .before .before .do-store .ensures _))
+    (λ c. rw (c .before .before .before .before .before .e5 .given .1, c .do-load .ensures _))
+    (λ c. search needs)
+    (λ c. search needs)
+    (λ c. rw (c .before .before .before .before .before .before .before .before .before .before .before .e6 .given .1, ← c .before .before .before .before .before .before .before .user .ensures, ← c .before .before .before .before .before .before .store .ensures .0, ← c .before .before .before .before .before .before .store .ensures .1) (ap (tick false) (c .after-store .ensures _ _)))
     (λ c. rw (c .before .before .before .e7 .given .1, c .trap .ensures _ _))
     (λ c. rw (c .before .before .before .before .e8 .given .1, c .do-wait .ensures _ _, c .before .read-system .ensures))
     (λ c. rw (c .before .before .before .before .e9 .given .1, c .do-system .ensures _ _, c .before .write-system .ensures))
@@ -59,6 +67,8 @@ perform-spec =
     (λ c. rw (c .before .before .before .before .e11 .given .1, c .do-write-geometry .ensures _))
     (λ c. rw (c .before .e12 .given .1))
     (λ c. search needs)
-    (λ c. rw (c .before .before .before .before .before .e13 .given .1, c .do-load-geometry .ensures))
     (λ c. search needs)
-    (λ c. rw (c .before .before .before .before .before .before .before .before .e14 .given .1, c .before .before .do-store2 .ensures _, c .before .before .before .read2 .ensures)))
+    (λ c. rw (c .before .before .before .before .before .before .e13 .given .1, c .do-load-geometry .ensures))
+    (λ c. search needs)
+    (λ c. search needs)
+    (λ c. rw (c .before .before .before .before .before .before .before .before .before .before .before .before .before .e14 .given .1, ← c .before .before .before .before .before .before .before .read2 .ensures, ← c .before .before .before .before .before .before .before .before .before .user2 .ensures, ← c .before .before .before .before .before .before .store2 .ensures .0, ← c .before .before .before .before .before .before .store2 .ensures .1) (ap (tick false) (c .after-store2 .ensures _ _))))

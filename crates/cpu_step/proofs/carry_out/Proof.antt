@@ -17,8 +17,8 @@ rest = 0 ∷ 1 ∷ 2 ∷ 3 ∷ 4 ∷ 5 ∷ 6 ∷ 7 ∷ 8 ∷ 9 ∷ 10 ∷ 11 ∷
 
 returns-2 : tie.Need-returns-2
 returns-2 c =
-    let no : (word : ℕ) → c .before .before .before .before .before .before .before .before .before .args .e ≡ E.Command word → ⊥ = λ word q. miss rest 12 tt (rw q at (c .before .before .before .before .before .before .before .match .keys2)) in
-    rw (c .done .ensures) (c .before .before .before .perform .ensures ∙ other passedOver commandStep _ _ no)
+    let no : (word : ℕ) → c .before .before .before .before .before .before .before .before .before .before .before .before .before .args .e ≡ E.Command word → ⊥ = λ word q. miss rest 12 tt (rw q at (c .before .before .before .before .before .before .before .before .before .before .match .keys2)) in
+    rw (c .done .ensures) (c .before .before .before .before .before .perform .ensures ∙ other passedOver commandStep _ _ no)
 
 pub carry-out-spec : {M : Type 1} → statement M
 unfolding performOf
@@ -30,5 +30,6 @@ carry-out-spec =
     (λ c κs. search needs)
     (λ c κs. search needs)
     (λ c. rw (c .before .before .before .before .e .given .1, c .do-command .ensures _))
+    (λ c. search needs)
     (λ c. search needs)
     returns-2)

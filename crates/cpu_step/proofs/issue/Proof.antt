@@ -25,5 +25,6 @@ issue-spec =
     (λ c κs. search needs)
     (λ c κs. search needs)
     (λ c. search needs)
-    (λ c. rw (← c .before .before .before .before .before .before .before .before .before .before .before .before .before .owner-of .ensures, ← c .before .before .before .before .before .before .before .before .before .before .before .before .usable .ensures, c .before .before .before .before .before .before .before .before .before .before .before .if1 .taken, ← c .before .before .before .before .before .before .before .decode .ensures, ← c .before .before .before .before .before .before .before .before .before .before .fields-of .ensures .0, ← c .before .before .before .before .before .before .execute .ensures, c .before .before .carry-out .ensures))
+    (λ c. search needs)
+    (λ c. rw (← c .before .before .before .before .before .before .before .before .before .before .before .before .before .before .before .before .owner-of .ensures, ← c .before .before .before .before .before .before .before .before .before .before .before .before .before .before .before .usable .ensures, c .before .before .before .before .before .before .before .before .before .before .before .before .before .before .if1 .taken, ← c .before .before .before .before .before .before .before .before .before .before .decode .ensures, ← c .before .before .before .before .before .before .before .before .before .before .before .before .before .fields-of .ensures .0, ← c .before .before .before .before .before .before .before .before .before .execute .ensures, c .before .before .before .before .carry-out .ensures))
     (λ c. rw (c .done .ensures, ← c .before .before .before .before .before .before .owner-of .ensures, ← c .before .before .before .before .before .usable .ensures, c .before .before .before .before .if1 .left, ← c .before .before .number .ensures, c .before .trap .ensures _ _)))

@@ -1,4 +1,4 @@
--- The fetch is a load of a word, and each of its outcomes is a clause of the definition.
+-- Each outcome of the fetch is a clause of the definition.
 use borrow.Author.Needs.{needs}
 use Rattle.cpu_step.specs.Step.{stepOf}
 use Rattle.cpu_step.proofs.step.Statement.{statement}
@@ -20,8 +20,9 @@ step-spec =
     (λ c κs. search needs)
     (λ c κs. search needs)
     (λ c. search needs)
-    (λ c. rw (← c .before .before .before .before .before .before .before .before .before .before .user .ensures, ← c .before .before .before .before .before .before .before .before .before .load .ensures, c .before .before .before .before .before .before .before .word .given .1, c .before .before .issue .ensures))
     (λ c. search needs)
-    (λ c. rw (c .done .ensures, ← c .before .before .before .before .before .before .user .ensures, ← c .before .before .before .before .before .load .ensures, c .before .before .before .enum-told .given .1, c .before .trap .ensures _ _))
+    (λ c. rw (← c .before .before .before .before .before .before .before .before .before .before .before .before .before .user .ensures, ← c .before .before .before .before .before .before .before .before .before .before .before .before .fetch .ensures, c .before .before .before .before .before .before .before .before .before .before .word .given .1, c .before .before .before .before .issue .ensures))
     (λ c. search needs)
-    (λ c. rw (c .done2 .ensures, ← c .before .before .before .before .before .before .user .ensures, ← c .before .before .before .before .before .load .ensures, c .before .before .before .enum-told2 .given .1, c .before .fault .ensures _ _)))
+    (λ c. rw (c .done .ensures, ← c .before .before .before .before .before .before .user .ensures, ← c .before .before .before .before .before .fetch .ensures, c .before .before .before .enum-told .given .1, c .before .trap .ensures _ _))
+    (λ c. search needs)
+    (λ c. rw (c .done2 .ensures, ← c .before .before .before .before .before .before .user .ensures, ← c .before .before .before .before .before .fetch .ensures, c .before .before .before .enum-told2 .given .1, c .before .fault .ensures _ _)))

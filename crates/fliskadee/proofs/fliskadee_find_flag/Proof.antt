@@ -10,4 +10,5 @@ fliskadee-find-flag-spec =
     (λ c κs. search needs)
     (λ c. search needs)
     (λ c. search needs)
-    (λ c. c .before .before .before .before .run-with .ensures))
+    (λ c. search needs)
+    (λ c. c .before .before .before .before .before .before .run-with .ensures))

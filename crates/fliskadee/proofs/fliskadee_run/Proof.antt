@@ -12,4 +12,5 @@ fliskadee-run-spec =
     (λ c κs. search needs)
     (λ c. search needs)
     (λ c. search needs)
-    (λ c. c .before .before .before .before .run-with .ensures ∙ find-run _ _ _))
+    (λ c. search needs)
+    (λ c. c .before .before .before .before .before .before .run-with .ensures ∙ find-run _ _ _))

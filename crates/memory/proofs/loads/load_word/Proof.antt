@@ -4,7 +4,7 @@ use lib.ListN.{length}
 use Rattle.memory.specs.Loads.{readOf}
 use Rattle.memory.specs.declared.loads.LoadKind.the-variants.{Word}
 use Rattle.memory.proofs.LoadsAligned.{load-keeps}
-use Rattle.memory.proofs.Places.{below, aligned, room-word, placed}
+use Rattle.memory.proofs.Places.{below, aligned, ram-words, room-word, placed}
 use borrow.Author.Needs.{needs}
 use Rattle.memory.proofs.loads.load_word.Statement.{statement}
 use Rattle.memory.proofs.loads.load_word.Tie as tie
@@ -25,7 +25,7 @@ cast-word-at : tie.Need-cast-word-at
 cast-word-at c = search needs
 
 word-at-requires : tie.Need-word-at-requires
-word-at-requires c κs = let e = placed (length (now (c .before .before .before .before .before .before .before .args .ram))) (c .before .before .before .before .before .before .before .args .v .0) _ _ (c .before .before .before .before .before .before .before .pre) (c .before .before .before .before .translate-word .ensures .1) (c .before .before .before .before .translate-word .ensures .0) (c .before .before .q .given .1) in room-word (now (c .before .before .before .before .before .before .before .args .ram)) _ (c .before .before .before .before .before .before .before .pre) (below _ _ _ _ _ e) (aligned _ _ _ _ _ (load-keeps Word) e)
+word-at-requires c κs = let e = placed (length (now (c .before .before .before .before .before .before .before .args .ram))) (c .before .before .before .before .before .before .before .args .v .0) _ _ (c .before .before .before .before .before .before .before .pre) (c .before .before .before .before .translate-word .ensures .1) (c .before .before .before .before .translate-word .ensures .0) (c .before .before .q .given .1) in room-word (now (c .before .before .before .before .before .before .before .args .ram)) _ (ram-words (now (c .before .before .before .before .before .before .before .args .ram)) (c .before .before .before .before .before .before .before .pre)) (below _ _ _ _ _ e) (aligned _ _ _ _ _ (load-keeps Word) e)
 
 returns-2 : tie.Need-returns-2
 unfolding readOf

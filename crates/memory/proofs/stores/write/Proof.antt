@@ -1,4 +1,4 @@
--- Each kind has its store, for which an aligned place in RAM has room.
+-- Each kind has its store, for which an aligned place in memory of whole words has room.
 use borrow.Author.Needs.{needs}
 use denote.Ref.{now}
 use Rattle.memory.specs.Stores.{writeOf}
@@ -14,13 +14,13 @@ write-spec =
     (λ c. search needs)
     (λ c κs. search needs)
     (λ c. search needs)
-    (λ c κs. let s = c .before .before .before .before in let h = s .pre in room-half (now (s .args .ram)) _ (h .0) (h .1 .0) (rw (c .before .enum-told2 .given .1) at (h .1 .1)))
+    (λ c κs. let s = c .before .before .before .before in let h = s .pre in room-half (now (s .args .m)) _ (h .0) (h .1 .0) (rw (c .before .enum-told2 .given .1) at (h .1 .1)))
     (λ c. search needs)
-    (λ c κs. let s = c .before .before .before .before in let h = s .pre in room-word (now (s .args .ram)) _ (h .0) (h .1 .0) (rw (c .before .enum-told3 .given .1) at (h .1 .1)))
+    (λ c κs. let s = c .before .before .before .before in let h = s .pre in room-word (now (s .args .m)) _ (h .0) (h .1 .0) (rw (c .before .enum-told3 .given .1) at (h .1 .1)))
     (λ c. search needs)
-    (λ c κs. let s = c .before .before .before .before in let h = s .pre in room-word-of (now (s .args .ram)) _ (h .0) (h .1 .0))
+    (λ c κs. let s = c .before .before .before .before in let h = s .pre in room-word-of (now (s .args .m)) _ (h .0) (h .1 .0))
     (λ c. search needs)
-    (λ c κs. let s = c .before .before .before .before in let h = s .pre in room-word-of (now (s .args .ram)) _ (h .0) (h .1 .0))
+    (λ c κs. let s = c .before .before .before .before in let h = s .pre in room-word-of (now (s .args .m)) _ (h .0) (h .1 .0))
     (λ c. search needs)
     (λ c. rw (c .before .before .before .before .enum-told .given .1) (c .before .before .put-byte .ensures))
     (λ c. search needs)
