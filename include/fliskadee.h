@@ -123,7 +123,7 @@ enum fliskadee_code {
 #define FLISKADEE_MOST_STEPS 1000000
 
 /* Carries out at most count steps of the machine that image, RAM and scratch pad describe, and leaves all three as they are
- * afterwards. Codes 1, 2, 3, 6 and 4 are tested in this order. An exception is a completed step. Where none of them applies, count 0
+ * afterwards. An exception is a completed step. Codes 1, 2, 3, 6 and 4 are tested in this order; where none of them applies, count 0
  * answers 0 and changes nothing.
  *
  * RAM stands from physical address 0 on, through the segments 000, 100 and 101 (the top three bits of an address). The scratch pad
