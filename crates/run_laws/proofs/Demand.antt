@@ -4,7 +4,7 @@ use Prim.Native.Nat.{ℕ, zero, suc, _+_, _-_, _<_, _≤_}
 use native.Mathlib.Omega.{arith}
 use mathlib.Core.Bool.{Bool, true, false, cond}
 use mathlib.Core.List.{List}
-use mathlib.Core.Path.{_≡_, refl, sym, ap, _∙_}
+use mathlib.Core.Path.{_≡_, refl, sym, ap, _∙_, subst}
 use lib.Dec.{eqb}
 use borrow.Author.Tests.{eqb-true}
 use Rattle.cpu_decode.specs.Decode.{decodeOf}
@@ -17,9 +17,12 @@ use Rattle.cpu_state.specs.State.{State}
 use Rattle.cpu_effects.specs.Effects.{nextStep}
 use Rattle.cpu_perform.specs.Perform.{Tick, performOf}
 use Rattle.cpu_step.specs.Step.{commandStep, issueOf, stepOf}
+use Rattle.words.specs.Words.{bitAt}
+use Rattle.gte_registers.specs.Registers.{reg}
 use Rattle.gte.specs.Commands.{Command, commandIn, listed, outcomeOf, commandOf}
 use Rattle.gte.specs.declared.Outcome.the-variants as O
-use Rattle.gte_laws.specs.Demand.{Goes, single, first, second, third}
+use Rattle.gte_laws.specs.Exact.{checksAt, condition}
+use Rattle.gte_laws.specs.Demand.{tolerance, Near, Goes, single, first, second, third}
 use Rattle.gte_laws.proofs.Exact.{demand-2}
 use Rattle.gte_laws.proofs.Demand.{demand-3}
 use Rattle.image.specs.Image.{geometryIn, machineOf, imageOf}
@@ -177,7 +180,9 @@ run-demand-2 i m n k a h =
       image = x .after ∙ ap imageOf (x .step) ∙ ap (λ (y : State). imageOf (stepOf y .after)) (sym e);
       memory-after = x .after-memory ∙ ap (λ (y : State). y .memory) (x .step) ∙ ap (λ (y : State). stepOf y .after .memory) (sym e);
       flag = λ word b c d.
-          rw (words-after i m k word t u x c d, words-before i m k t u x) (demand-2 word (t .geometry) (geometry-long (t .geometry) (x .formed .geometry)) d b);
+          ap (λ (w : List ℕ). bitAt b (reg w 63)) (words-after i m k word t u x c d)
+          ∙ demand-2 word (t .geometry) (geometry-long (t .geometry) (x .formed .geometry)) d b
+          ∙ ap (λ (w : List ℕ). condition b (checksAt word w)) (sym (words-before i m k t u x));
     }
 
 pub run-demand-3 : Demand3
@@ -186,4 +191,6 @@ run-demand-3 i m n k word v r a h c sf clear g =
     let u = runOf (suc k) (machineOf i m) .last in
     let x = at-step i m n k a h in
     let step = words-after i m k word t u x c (done word v r g) in
-    rw (words-before i m k t u x, step) (demand-3 word (t .geometry) (geometry-long (t .geometry) (x .formed .geometry)) sf (rw step at clear) v r g)
+    let near = demand-3 word (t .geometry) (geometry-long (t .geometry) (x .formed .geometry)) sf (rw step at clear) v r g in
+    subst (λ (w : List ℕ). Near tolerance w v (reg (geometryIn (answerOf i m (suc k) .image)) r)) (sym (words-before i m k t u x))
+    (subst (λ (w : List ℕ). Near tolerance (t .geometry) v (reg w r)) (sym step) near)
