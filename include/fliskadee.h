@@ -116,7 +116,9 @@ enum fliskadee_code {
                                            the 22: image, RAM and pad are as just before it. Of fliskadee_causes: the command
                                            word is not one of the 22; nothing changed */
     FLISKADEE_REFUSED_PAD_LENGTH = 6,   /* the pad is not 1,024 bytes; nothing changed */
-    FLISKADEE_REFUSED_SPACE = 8,        /* fliskadee_causes only: too few words are lent; nothing changed */
+    FLISKADEE_REFUSED_FILE = 7,         /* fliskadee_load only: the file is malformed; nothing changed */
+    FLISKADEE_REFUSED_SPACE = 8,        /* fliskadee_causes: too few words are lent; fliskadee_save: too few bytes are lent;
+                                           fliskadee_load: the file has another total of RAM than is lent. Nothing changed */
     FLISKADEE_FLAG_UP = 16              /* fliskadee_find_flag only: a bit of the mask came up in the last step completed */
 };
 
@@ -164,7 +166,7 @@ static inline uint64_t fliskadee_find_flag_lent(const struct fliskadee_lent *len
                                mask);
 }
 
-/* ---- The answer of fliskadee_causes: a code of the list above, and a number beside it */
+/* ---- The answer of fliskadee_causes, fliskadee_save and fliskadee_load: a code of the list above, and a number beside it */
 struct fliskadee_answer {
     uint64_t code, number;
 };
@@ -198,6 +200,72 @@ struct fliskadee_answer fliskadee_causes(const uint8_t *image, size_t image_leng
 static inline int64_t fliskadee_cause_value(const uint32_t *row)
 {
     return (int64_t)((uint64_t)row[4] << 32 | row[3]);
+}
+
+/* ---- Saved machines: image, RAM and pad as one file
+ *
+ * A file is fields: a tag of one byte, the length of the content in two bytes, the lower one first, and the content. In this order:
+ *
+ *   tag 1    176 bytes: words 0..43 of the image
+ *   tag 2    256 bytes: the 64 COP2 words
+ *   tag 3    RAM in address order, one block or more: each has 32,768 bytes, but the last may have 1 to 32,768
+ *   tag 4    1,024 bytes: the pad
+ *   tag 0    0 bytes, and nothing after it
+ *
+ * A machine has one file, and a file one machine: what fliskadee_save wrote, fliskadee_load gives back, and a file that
+ * fliskadee_load accepts is the one that fliskadee_save writes of what was loaded, byte for byte. */
+#define FLISKADEE_BLOCK_BYTES 32768
+#define FLISKADEE_MOST_SAVED_BYTES 2098812 /* of FLISKADEE_MOST_RAM */
+
+/* The bytes of the file of a machine with so many bytes of RAM. */
+static inline size_t fliskadee_saved_bytes(size_t ram_length)
+{
+    return 1468 + ram_length + 3 * ((ram_length + FLISKADEE_BLOCK_BYTES - 1) / FLISKADEE_BLOCK_BYTES);
+}
+
+/* The bytes of RAM in a well-formed file of so many bytes; 0 where no well-formed file has so many. */
+static inline size_t fliskadee_saved_ram(size_t file_length)
+{
+    size_t blocks, n;
+
+    if (file_length < 1472)
+        return 0;
+    n = file_length - 1468;
+    blocks = n / (FLISKADEE_BLOCK_BYTES + 3) + (n % (FLISKADEE_BLOCK_BYTES + 3) != 0);
+    n -= 3 * blocks;
+    return fliskadee_saved_bytes(n) == file_length ? n : 0;
+}
+
+/* Writes the file of a machine to the front of the space; image, RAM and pad are only read.
+ *
+ * Codes 1, 3 and 6 (the lengths of image, RAM and pad), 2 and 8 (the space is too short) are tested in this order. Code 0: the
+ * number is that of the bytes written, fliskadee_saved_bytes of the RAM's length, and the rest of the space is as before. Every
+ * other code has the number 0, and nothing changed. */
+struct fliskadee_answer fliskadee_save(const uint8_t *image, size_t image_length, const uint8_t *ram, size_t ram_length,
+                                       const uint8_t *pad, size_t pad_length, uint8_t *space, size_t space_length);
+
+/* Reads the machine of a file into image, RAM and pad, whatever they held.
+ *
+ * Codes 1, 3 and 6 (the lengths of image, RAM and pad), 7 (the file is malformed), 2 (the file's image is not well formed) and 8
+ * (the total of tag 3 is not the length of the RAM) are tested in this order. Code 0: the machine is loaded, and fliskadee_run does
+ * not refuse it. Code 7 has for its number the length of the longest beginning that the file shares with some well-formed file: the
+ * place of the first byte that cannot stand there, or the file's length where it ends too early. Every other code has the
+ * number 0; with every code but 0 nothing changed. */
+struct fliskadee_answer fliskadee_load(const uint8_t *file, size_t file_length, uint8_t *image, size_t image_length, uint8_t *ram,
+                                       size_t ram_length, uint8_t *pad, size_t pad_length);
+
+/* The same over what a machine is lent. */
+static inline struct fliskadee_answer fliskadee_save_lent(const struct fliskadee_lent *lent, uint8_t *space, size_t space_length)
+{
+    return fliskadee_save(lent->image, lent->image_length, lent->ram, lent->ram_length, lent->pad, lent->pad_length, space,
+                          space_length);
+}
+
+static inline struct fliskadee_answer fliskadee_load_lent(const uint8_t *file, size_t file_length,
+                                                          const struct fliskadee_lent *lent)
+{
+    return fliskadee_load(file, file_length, lent->image, lent->image_length, lent->ram, lent->ram_length, lent->pad,
+                          lent->pad_length);
 }
 
 /* ---- The window: which part of the lent RAM, or of the lent pad, a virtual address and a length name

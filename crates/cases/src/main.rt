@@ -1,8 +1,8 @@
-// Runs worked examples of the GTE, of steps, of runs, of windows and of causes through the code, and compares. Carries the rows of 01 "Figures
-// from the bench" that are not starred.
+// Runs worked examples of the GTE, of steps, of runs, of windows, of causes and of saved machines through the code, and compares. Carries the
+// rows of 01 "Figures from the bench" that are not starred.
 // Standard input has lines of 20 bytes: a letter, and two numbers of 8 hexadecimal digits (or, after `n`, a name).
 //   n  a case begins: registers of zeros; an image that is fresh (zeros, but next PC 4 and COP2 register 31, which is 32), of 432
-//      bytes; RAM of zeros, 4096 bytes; a pad of zeros, 1024 bytes
+//      bytes; RAM of zeros, 4096 bytes; a pad of zeros, 1024 bytes; a file of EEh, 36,000 bytes
 //   g  a COP2 register, and the word to write       w  a word of the image, and its value     s  a run: the count's low word
 //   c  a command word, and its outcome (0 done,     m  an address in RAM, and its word        f  a search: the count, the mask
 //      1 not listed)                                i  the image's length                     v  a window: the address, the length
@@ -11,11 +11,15 @@
 //   r  a word of the image, and what it is to be    q  an address in RAM, and what its word is to be
 //   d  a place in the pad, and its word             t  a place in the pad, and what its word is to be
 //   j  the pad's length
-//   k  the last run or search has changed no byte of image, RAM and pad
+//   k  the last run, search, save or load has changed no byte of image, RAM, pad and file
 //   p  a window as bytes: the address, the length; it answers the length, and the last byte by 256 plus the first
 //   e  the causes of a command word on the image, and how many words are lent, at most 600: it answers code and number, and RAM then
 //      begins with 600 words, the lent ones and others behind, each EEEEEEEEh where nothing was written
+//   o  a save with so many bytes of the file for its space: it answers code and number
+//   u  a load of so many bytes of the file: it answers code and number
+//   b  a place in the file, and its byte            y  a place in the file, and what the word there is to be
 ghost use Prim.Native.Nat.{_<_};
+use answer::Answer;
 use gte::Outcome;
 
 // What has been counted, and whether the case that runs has had no difference so far.
@@ -26,7 +30,7 @@ struct Tally {
     clean: bool,
 }
 
-// What goes by value of a case. before: a digest of image, RAM and pad before the last run or search.
+// What goes by value of a case. before: a digest of image, RAM, pad and file before the last run, search, save or load.
 struct Case {
     image_length: usize,
     ram_length: usize,
@@ -159,6 +163,13 @@ fn word(m: &[u8], at: usize) -> u32 {
     byte_order::word_at(m, at)
 }
 
+// A byte at a place, where there is one.
+fn put_byte(m: &mut [u8], at: usize, v: u32) {
+    if at < m.len() {
+        m[at] = (v % 256) as u8;
+    }
+}
+
 // A number that a changed byte changes: each byte has its own weight among the last ones, and all of them are mixed in.
 fn digest(m: &[u8], first: u64) -> u64 {
     let n = m.len();
@@ -282,7 +293,64 @@ fn causes(image: &[u8], ram: &mut [u8], image_length: usize, word: u32, space: u
     let mut words = [0xeeee_eeeeu32; 600];
     let a = fliskadee::fliskadee_causes(&image[0..image_length], word, &mut words[0..space]);
     put_words(ram, &words);
+    both(a)
+}
+
+// A code and a number as one: the number in the low 32 bits.
+fn both(a: Answer) -> u64 {
     a.code % 0x100 * 0x1_0000_0000 + a.number % 0x1_0000_0000
+}
+
+// The machine saved to the first bytes of the file.
+fn save(image: &[u8], ram: &[u8], pad: &[u8], file: &mut [u8], x: Case, space: usize) -> u64 {
+    let i = x.image_length;
+    let m = x.ram_length;
+    let n = x.pad_length;
+    if image.len() < i {
+        return 0xffff_ffff_ffff_ffff;
+    }
+    if ram.len() < m {
+        return 0xffff_ffff_ffff_ffff;
+    }
+    if pad.len() < n {
+        return 0xffff_ffff_ffff_ffff;
+    }
+    if file.len() < space {
+        return 0xffff_ffff_ffff_ffff;
+    }
+    both(fliskadee::fliskadee_save(&image[0..i], &ram[0..m], &pad[0..n], &mut file[0..space]))
+}
+
+// The machine loaded from the first bytes of the file.
+fn load(
+    image: &mut [u8],
+    ram: &mut [u8],
+    pad: &mut [u8],
+    file: &[u8],
+    x: Case,
+    length: usize,
+) -> u64 {
+    let i = x.image_length;
+    let m = x.ram_length;
+    let n = x.pad_length;
+    if image.len() < i {
+        return 0xffff_ffff_ffff_ffff;
+    }
+    if ram.len() < m {
+        return 0xffff_ffff_ffff_ffff;
+    }
+    if pad.len() < n {
+        return 0xffff_ffff_ffff_ffff;
+    }
+    if file.len() < length {
+        return 0xffff_ffff_ffff_ffff;
+    }
+    both(fliskadee::fliskadee_load(
+        &file[0..length],
+        &mut image[0..i],
+        &mut ram[0..m],
+        &mut pad[0..n],
+    ))
 }
 
 // A command is carried out: 0, or 1 where it is not listed.
@@ -343,12 +411,14 @@ fn begin_case(
     image: &mut [u8; 512],
     ram: &mut [u8; 2097160],
     pad: &mut [u8; 2048],
+    file: &mut [u8; 36000],
     t: Tally,
 ) -> Case {
     *g = [0; 64];
     *image = [0; 512];
     *ram = [0; 2097160];
     *pad = [0; 2048];
+    *file = [0xee; 36000];
     put(image, 140, 4);
     put(image, 300, 32);
     Case {
@@ -374,6 +444,7 @@ fn follow(
     image: &mut [u8; 512],
     ram: &mut [u8; 2097160],
     pad: &mut [u8; 2048],
+    file: &mut [u8; 36000],
     letter: u8,
     a: u32,
     b: u32,
@@ -395,6 +466,10 @@ fn follow(
             put(pad, a as usize, b);
             x
         }
+        b'b' => {
+            put_byte(file, a as usize, b);
+            x
+        }
         b'i' => with_image_length(x, a),
         b'l' => with_ram_length(x, a),
         b'j' => with_pad_length(x, a),
@@ -404,11 +479,13 @@ fn follow(
         b'v' => with_answer(x, window(ram, pad, x, a, b)),
         b'e' => with_answer(x, causes(image, ram, x.image_length, a, b as usize)),
         b'p' => with_answer(x, part(ram, pad, x, a, b)),
+        b'o' => with_answer(x, save(image, ram, pad, file, x, a as usize)),
+        b'u' => with_answer(x, load(image, ram, pad, file, x, a as usize)),
         b'c' => {
             let t = x.tally;
             counted(x, compare(t, a, outcome(g, a), b as u64))
         }
-        _ => check_line(x, g, image, ram, pad, letter, a, b),
+        _ => check_line(x, g, image, ram, pad, file, letter, a, b),
     }
 }
 
@@ -419,6 +496,7 @@ fn check_line(
     image: &[u8; 512],
     ram: &[u8; 2097160],
     pad: &[u8; 2048],
+    file: &[u8; 36000],
     letter: u8,
     a: u32,
     b: u32,
@@ -441,6 +519,7 @@ fn check_line(
         ),
         b'q' => counted(x, compare(t, a, word(ram, a as usize) as u64, b as u64)),
         b't' => counted(x, compare(t, a, word(pad, a as usize) as u64, b as u64)),
+        b'y' => counted(x, compare(t, a, word(file, a as usize) as u64, b as u64)),
         _ => counted(x, compare(t, wide(letter), 0, 1)),
     }
 }
@@ -451,15 +530,21 @@ fn with_before(x: Case, n: u64) -> Case {
     y
 }
 
-fn all(image: &[u8; 512], ram: &[u8; 2097160], pad: &[u8; 2048]) -> u64 {
-    digest(pad, digest(ram, digest(image, 0)))
+fn all(image: &[u8; 512], ram: &[u8; 2097160], pad: &[u8; 2048], file: &[u8; 36000]) -> u64 {
+    digest(file, digest(pad, digest(ram, digest(image, 0))))
 }
 
-// What stands in image, RAM and pad is noted before a run or a search, for `k`.
-fn noted(x: Case, letter: u8, image: &[u8; 512], ram: &[u8; 2097160], pad: &[u8; 2048]) -> Case {
+// What stands in image, RAM, pad and file is noted before a run, a search, a save or a load, for `k`.
+fn noted(
+    x: Case,
+    letter: u8,
+    image: &[u8; 512],
+    ram: &[u8; 2097160],
+    pad: &[u8; 2048],
+    file: &[u8; 36000],
+) -> Case {
     match letter {
-        b's' => with_before(x, all(image, ram, pad)),
-        b'f' => with_before(x, all(image, ram, pad)),
+        b's' | b'f' | b'o' | b'u' => with_before(x, all(image, ram, pad, file)),
         _ => x,
     }
 }
@@ -471,6 +556,7 @@ fn line(
     image: &mut [u8; 512],
     ram: &mut [u8; 2097160],
     pad: &mut [u8; 2048],
+    file: &mut [u8; 36000],
     buf: &[u8; 65520],
     k: usize,
 ) -> Case {
@@ -483,15 +569,16 @@ fn line(
         b'n' => {
             end_case(t);
             print_name(buf, at + 2);
-            begin_case(g, image, ram, pad, t)
+            begin_case(g, image, ram, pad, file, t)
         }
-        b'k' => counted(x, compare(t, 0, all(image, ram, pad), x.before)),
+        b'k' => counted(x, compare(t, 0, all(image, ram, pad, file), x.before)),
         _ => follow(
-            noted(x, letter, image, ram, pad),
+            noted(x, letter, image, ram, pad, file),
             g,
             image,
             ram,
             pad,
+            file,
             letter,
             a,
             b,
@@ -506,13 +593,14 @@ fn block(
     image: &mut [u8; 512],
     ram: &mut [u8; 2097160],
     pad: &mut [u8; 2048],
+    file: &mut [u8; 36000],
     buf: &[u8; 65520],
     lines: usize,
 ) -> Case {
     let mut x = first;
     let mut k: usize = 0;
     while k < lines {
-        x = line(x, g, image, ram, pad, buf, k);
+        x = line(x, g, image, ram, pad, file, buf, k);
         k += 1;
     }
     x
@@ -555,12 +643,22 @@ fn follow_all(ram: &mut [u8; 2097160]) -> Tally {
     let mut g = [0u32; 64];
     let mut image = [0u8; 512];
     let mut pad = [0u8; 2048];
+    let mut file = [0u8; 36000];
     let mut buf = [0u8; 65520];
     let mut x = nothing();
     let mut i: usize = 0;
     while i < 16 {
         let n = read_block(&mut buf);
-        x = block(x, &mut g, &mut image, ram, &mut pad, &buf, n / 20);
+        x = block(
+            x,
+            &mut g,
+            &mut image,
+            ram,
+            &mut pad,
+            &mut file,
+            &buf,
+            n / 20,
+        );
         if n % 20 != 0 {
             io::write_all(1, b"\nthe input ends inside a line");
         }

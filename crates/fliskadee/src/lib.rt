@@ -3,6 +3,8 @@ ghost use mathlib.Core.Path.{_≡_};
 ghost use Rattle.memory.specs.Memory.{memory};
 ghost use Rattle.window.specs.Window.{windowPart};
 ghost use Rattle.causes.specs.Causes.{Causes};
+ghost use Rattle.saved.specs.Save.{saved, saveOf};
+ghost use Rattle.saved.specs.Load.{loaded, Loads};
 ghost use Rattle.fliskadee.specs.Find.{answer, findOf};
 ghost use Rattle.fliskadee.specs.Answer.{answerOf};
 ghost use Rattle.fliskadee.specs.Interface.{interfaceNumber};
@@ -14,6 +16,8 @@ use image::admission::refusal;
 use image::bytes::write_image;
 use memory::addresses::Virt;
 use run::run_until;
+use saved::load_machine;
+use saved::save_machine;
 use window::part_of;
 
 // The run of the machine that an image, RAM and pad describe, ended by a bit of the mask.
@@ -76,6 +80,27 @@ pub extern "C" fn fliskadee_causes(image: &[u8], word: u32, words: &mut [u32]) -
     ensures { λ r. ⌜ Causes (now (image .entry)) word (now (words .entry)) r (now (words .exit)) ⌝ }
 {
     list_causes(image, word, words)
+}
+
+// A machine written as one file to the front of the space.
+#[no_mangle]
+pub extern "C" fn fliskadee_save(image: &[u8], ram: &[u8], pad: &[u8], space: &mut [u8]) -> Answer
+    ensures { λ r. ⌜ saved (r .code) (r .number) (now (space .exit)) ≡ saveOf (now (image .entry)) (now (ram .entry)) (now (pad .entry)) (now (space .entry)) ⌝ }
+{
+    save_machine(image, ram, pad, space)
+}
+
+// The machine of a file, read into image, RAM and pad.
+#[no_mangle]
+pub extern "C" fn fliskadee_load(
+    file: &[u8],
+    image: &mut [u8],
+    ram: &mut [u8],
+    pad: &mut [u8],
+) -> Answer
+    ensures { λ r. ⌜ Loads (now (file .entry)) (now (image .entry)) (now (ram .entry)) (now (pad .entry)) (loaded (r .code) (r .number) (now (image .exit)) (now (ram .exit)) (now (pad .exit))) ⌝ }
+{
+    load_machine(file, image, ram, pad)
 }
 
 // Which interface the library was built with, so that a host can tell a header that is not its own (FLISKADEE_INTERFACE there).

@@ -2,7 +2,7 @@
 use Prim.Native.Nat.{ℕ, _≤_}
 use native.Mathlib.Omega.{arith}
 use mathlib.Core.Bool.{Bool, true, false, cond, not, _&&_, and-eq-true-iff}
-use mathlib.Core.List.{List, [], _∷_}
+use mathlib.Core.List.{List, [], _∷_, _++_}
 use mathlib.Core.Path.{_≡_, refl, sym, ap}
 use lib.Dec.{eqb, leb}
 use lib.ListN.{length, replicate}
@@ -44,7 +44,7 @@ all-pass most [] c h = tt
 all-pass most ((true else code) ∷ ts) c h = (refl, all-pass most ts (codes most code ts c .rest) h)
 all-pass most ((false else code) ∷ ts) c h = let n = codes most code ts c .least in absurd (omega arith)
 
-none-fails : (ts : List Test) → Pass ts → firstOf ts ≡ 0
+pub none-fails : (ts : List Test) → Pass ts → firstOf ts ≡ 0
 unfolding firstOf
 none-fails [] p = refl
 none-fails ((ok else code) ∷ ts) p = rw (p .0) (none-fails ts (p .1))
@@ -54,6 +54,14 @@ unfolding firstOf
 at-most most [] c = omega arith
 at-most most ((true else code) ∷ ts) c = at-most most ts (codes most code ts c .rest)
 at-most most ((false else code) ∷ ts) c = codes most code ts c .greatest
+
+-- tests in front of others: theirs is the code, or there is none and the others' is
+pub first-then : (most : ℕ) (ts us : List Test) → coded most ts ≡ true → firstOf (ts ++ us) ≡ cond (eqb (firstOf ts) 0) (firstOf us) (firstOf ts)
+unfolding firstOf
+first-then most [] us c = refl
+first-then most ((true else code) ∷ ts) us c = first-then most ts us (codes most code ts c .rest)
+first-then most ((false else code) ∷ ts) us c =
+    let n = codes most code ts c .least in rw (ne-eqb code 0 (λ e. omega arith))
 
 -- ---- a test that code makes by its negation
 pub failed : (b : Bool) → not b ≡ true → b ≡ false
@@ -84,17 +92,10 @@ admitted i m count p =
     none-fails (imageTests i (lentTests m count))
     (eq-eqb _ _ (p .long), (p .formed, (p .memory .ram, (eq-eqb _ _ (p .memory .pad), (le-leb _ _ (p .most), tt)))))
 
--- ---- its two halves
-halves-by : (a b : Bool) (n : ℕ) (ts : List Test) → firstOf ((a else 1) ∷ (b else 2) ∷ []) ≡ n → firstOf ((a else 1) ∷ (b else 2) ∷ ts) ≡ cond (eqb n 0) (firstOf ts) n
-unfolding firstOf
-halves-by true true n ts h = rw (← h)
-halves-by true false n ts h = rw (← h)
-halves-by false b n ts h = rw (← h)
-
--- the image's refusal comes first, and the others' where there is none
+-- ---- its two halves: the image's refusal comes first, and the others' where there is none
 pub halves : (i : List ℕ) (m : Memory) (count : ℕ) → refusalOf i m count ≡ refusalAfter (imageRefusal i) m count
 unfolding refusalOf imageRefusal refusalAfter
-halves i m count = halves-by (eqb (length i) imageLength) (wellFormed i) (firstOf (imageTests i [])) (lentTests m count) refl
+halves i m count = first-then 2 (imageTests i []) (lentTests m count) refl
 
 -- a refused image's code is the call's
 pub accepted-first : (i : List ℕ) (m : Memory) (count : ℕ) → refusalOf i m count ≡ 0 → imageRefusal i ≡ 0

@@ -27,10 +27,13 @@ mostSteps = 1000000
 abbrev pub imageTests : List ℕ → List Test → List Test
 imageTests m ts = (eqb (length m) imageLength else 1) ∷ (wellFormed m else 2) ∷ ts
 
--- those of the lengths of RAM and of the pad, and of the count: codes 3, 6 and 4
+-- those of the lengths of RAM and of the pad, in front of others: codes 3 and 6
+abbrev pub memoryTests : ℕ → ℕ → List Test → List Test
+memoryTests ram pad ts = (ramLength ram else 3) ∷ (eqb pad padLength else 6) ∷ ts
+
+-- those of lent memory and of the count: codes 3, 6 and 4
 abbrev pub lentTests : Memory → ℕ → List Test
-lentTests m count =
-    (ramLength (length (m .ram)) else 3) ∷ (eqb (length (m .pad)) padLength else 6) ∷ (leb count mostSteps else 4) ∷ []
+lentTests m count = memoryTests (length (m .ram)) (length (m .pad)) ((leb count mostSteps else 4) ∷ [])
 
 -- codes 1, 2, 3, 6 and 4 are tested in this order; 0: the call is not refused
 unfoldable pub refusalOf : List ℕ → Memory → ℕ → ℕ

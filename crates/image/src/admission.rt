@@ -1,9 +1,10 @@
 // What is read of an image, and which calls are refused.
 ghost use mathlib.Core.Bool.{cond};
+ghost use mathlib.Core.List.{[]};
 ghost use mathlib.Core.Path.{_≡_};
 ghost use Rattle.memory.specs.Memory.{memory};
 ghost use Rattle.image.specs.Image.{geometryIn};
-ghost use Rattle.image.specs.Refusals.{wordsOr, imageRefusal, readOf, refusalAfter};
+ghost use Rattle.image.specs.Refusals.{firstOf, memoryTests, wordsOr, imageRefusal, readOf, refusalAfter};
 use crate::bytes::control_from;
 use crate::formed::well_formed;
 use byte_order::read_words;
@@ -67,6 +68,17 @@ pub fn read_geometry(image: &[u8], g: &mut [u32; 64]) -> u64
     read_words(image, 128, &mut w);
     read_words(image, 176, g);
     form_code(well_formed(&r, &w, g))
+}
+
+// Code 3 for the length of RAM, 6 for the pad's, or 0: for a save and a load. The run makes the two tests itself, since each of its steps
+// takes two instructions more where it asks here.
+pub fn memory_refusal(ram: usize, pad: usize) -> u64
+    ensures { λ r. ⌜ r ≡ firstOf (memoryTests ram pad []) ⌝ }
+{
+    if !ram_length(ram) {
+        return 3;
+    }
+    if pad == 1024 { 0 } else { 6 }
 }
 
 // The run's refusal: that of its image, else 3 for RAM's length, 6 for the pad's or 4 for the count, or 0.

@@ -7,4 +7,4 @@ pub mod admission;
 pub mod bytes;
 
 // Which words an image may have.
-mod formed;
+pub mod formed;

@@ -4,10 +4,10 @@ use Rattle.cases.proofs.block.Statement.{statement}
 use Rattle.cases.proofs.block.Tie as tie
 
 abbrev Inv-loop : tie.InvT-loop
-Inv-loop g₀ image₀ ram₀ pad₀ buf lines x₀ k₀ g image ram pad x k = k ≤ lines
+Inv-loop g₀ image₀ ram₀ pad₀ file₀ buf lines x₀ k₀ g image ram pad file x k = k ≤ lines
 
 abbrev μ-loop : tie.MeasureT-loop
-μ-loop g₀ image₀ ram₀ pad₀ buf lines x₀ k₀ g image ram pad x k = lines - k
+μ-loop g₀ image₀ ram₀ pad₀ file₀ buf lines x₀ k₀ g image ram pad file x k = lines - k
 
 loop-holds : tie.Need-loop-holds Inv-loop μ-loop
 loop-holds c = search needs

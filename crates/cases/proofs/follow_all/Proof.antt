@@ -4,10 +4,10 @@ use Rattle.cases.proofs.follow_all.Statement.{statement}
 use Rattle.cases.proofs.follow_all.Tie as tie
 
 abbrev Inv-loop : tie.InvT-loop
-Inv-loop ram₀ g₀ image₀ pad₀ buf₀ x₀ i₀ t10 ram g image pad buf x i = i ≤ 16
+Inv-loop ram₀ g₀ image₀ pad₀ file₀ buf₀ x₀ i₀ t10 ram g image pad file buf x i = i ≤ 16
 
 abbrev μ-loop : tie.MeasureT-loop
-μ-loop ram₀ g₀ image₀ pad₀ buf₀ x₀ i₀ t10 ram g image pad buf x i = 16 - i
+μ-loop ram₀ g₀ image₀ pad₀ file₀ buf₀ x₀ i₀ t10 ram g image pad file buf x i = 16 - i
 
 nothing-requires : tie.Need-nothing-requires Inv-loop μ-loop
 nothing-requires c κs = search needs

@@ -1,0 +1,4 @@
+pub mod Refusals
+pub mod Save
+pub mod Load
+pub mod Parts

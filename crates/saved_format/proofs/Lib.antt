@@ -1,0 +1,10 @@
+pub mod Sharing
+pub mod Bytes
+pub mod Fields
+pub mod Cuts
+pub mod Tails
+pub mod Whole
+pub mod Blocks
+pub mod Theorems
+pub mod Ends
+pub mod Examples
