@@ -14,11 +14,6 @@
 #define MODEL_CAUSE_WORDS 5 /* bit, part, line, and the low and high word of the value, or H and SZ3 */
 #define MODEL_MOST_CAUSES 63 /* of any command; NCDT comes to 21 in each part */
 
-/* Code and number apart. */
-struct model_answer {
-    uint64_t code, number;
-};
-
 /* Codes 1, 2, 5 and 8, tested in this order, write nothing; the number is 0, but of code 8 that of the words needed. */
 struct model_answer model_causes(const uint8_t *image, size_t image_length, uint32_t command, uint32_t *words,
                                  size_t words_length);

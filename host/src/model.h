@@ -3,8 +3,9 @@
  *
  * It is written from the papers alone and shares no code with the library, so
  * that the two can be compared. model_run, model_find_flag and model_window
- * have the interfaces of the library's calls (that of its fourth is in
- * causes.h); the calls below them run the same machine one step at a time.
+ * have the interfaces of the library's calls (those of the others are in
+ * causes.h and saved.h); the calls below them run the same machine one step at
+ * a time.
  */
 #ifndef MODEL_H
 #define MODEL_H
@@ -29,8 +30,14 @@ enum model_code {
     MODEL_COUNT = 4,
     MODEL_UNLISTED = 5,
     MODEL_PAD_LENGTH = 6,
-    MODEL_SPACE = 8, /* of model_causes (causes.h) alone */
+    MODEL_FILE = 7, /* of model_load_file (saved.h) alone */
+    MODEL_SPACE = 8, /* of causes.h and saved.h alone */
     MODEL_FLAG_UP = 16 /* of model_find_flag alone */
+};
+
+/* Code and number apart, as the calls of causes.h and saved.h answer them. */
+struct model_answer {
+    uint64_t code, number;
 };
 
 /* Answers code * 1048576 + steps completed. */

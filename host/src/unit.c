@@ -6,6 +6,7 @@
 #include "disassemble.h"
 #include "encode.h"
 #include "model.h"
+#include "saved.h"
 
 #include <stdio.h>
 #include <string.h>
@@ -2673,6 +2674,630 @@ static void causes_of_random_commands(void)
     equal("many rows", most > 5 * 40, true);
 }
 
+/* ---- Saved machines (02, Ticket 3) --------------------------------------------- */
+
+#define UNUSED_BYTE 0x6B
+#define FIRST_BLOCK 438 /* where the first block's head stands */
+
+static uint8_t file[2200000]; /* the file to load, and the space to save to */
+static size_t file_length;
+static uint8_t loaded_image[512], loaded_ram[65 * 32768], loaded_pad[sizeof pad]; /* lent to loads */
+
+static size_t saved_bytes(size_t length)
+{
+    return 1468 + length + 3 * ((length + 32767) / 32768);
+}
+
+static unsigned count_other(const uint8_t *bytes, size_t from, size_t to, uint8_t value)
+{
+    unsigned other = 0;
+
+    for (; from < to; from++)
+        other += bytes[from] != value;
+    return other;
+}
+
+/* Saves the machine under test. What is not the file's is as before, and so is the machine. */
+static struct model_answer save_length(size_t image_length, size_t space)
+{
+    static uint8_t ram_before[sizeof ram], pad_before[sizeof pad];
+    uint8_t image[512] = {0}, before[512];
+    struct model_answer a;
+    size_t used;
+
+    put_image(image);
+    memcpy(before, image, sizeof image);
+    memcpy(ram_before, ram, ram_length);
+    memcpy(pad_before, pad, sizeof pad);
+    memset(file, UNUSED_BYTE, space + 64);
+    a = model_save_file(image, image_length, ram, ram_length, pad, pad_length, file, space);
+    used = a.code == MODEL_DONE ? (size_t)a.number : 0;
+    if (count_other(file, used, space + 64, UNUSED_BYTE) != 0)
+        equal("a save changes what is not the file's", true, false);
+    if (memcmp(before, image, sizeof image) != 0 || memcmp(ram_before, ram, ram_length) != 0 ||
+        memcmp(pad_before, pad, sizeof pad) != 0)
+        equal("a save changes the machine", true, false);
+    file_length = used;
+    return a;
+}
+
+static struct model_answer save(size_t space)
+{
+    return save_length(MODEL_IMAGE_BYTES, space);
+}
+
+/* Loads the file into buffers of the lengths of the machine under test; a refusal leaves them as they were. */
+static struct model_answer load_length(size_t image_length)
+{
+    struct model_answer a;
+
+    memset(loaded_image, UNUSED_BYTE, sizeof loaded_image);
+    memset(loaded_ram, UNUSED_BYTE, ram_length);
+    memset(loaded_pad, UNUSED_BYTE, sizeof loaded_pad);
+    a = model_load_file(file, file_length, loaded_image, image_length, loaded_ram, ram_length, loaded_pad, pad_length);
+    if (a.code != MODEL_DONE &&
+        (count_other(loaded_image, 0, sizeof loaded_image, UNUSED_BYTE) != 0 ||
+         count_other(loaded_ram, 0, ram_length, UNUSED_BYTE) != 0 || count_other(loaded_pad, 0, pad_length, UNUSED_BYTE) != 0))
+        equal("a refused load changes something", true, false);
+    if (count_other(loaded_image, MODEL_IMAGE_BYTES, sizeof loaded_image, UNUSED_BYTE) != 0 ||
+        count_other(loaded_pad, MODEL_PAD_BYTES, sizeof loaded_pad, UNUSED_BYTE) != 0)
+        equal("a load writes behind a buffer", true, false);
+    return a;
+}
+
+static struct model_answer load(void)
+{
+    return load_length(MODEL_IMAGE_BYTES);
+}
+
+/* The fresh machine with every byte of its memories different from its neighbours, and never 0, 3 or 4. */
+static void fresh_saved(size_t length)
+{
+    size_t i;
+
+    fresh();
+    ram_length = length;
+    for (i = 0; i < length; i++)
+        ram[i] = (uint8_t)(5 + (i * 7 + i / 251) % 250);
+    for (i = 0; i < MODEL_PAD_BYTES; i++)
+        pad[i] = (uint8_t)(5 + (i * 11 + i / 241) % 250);
+}
+
+/* ---- A file field by field */
+
+static void add_bytes(const uint8_t *bytes, size_t length)
+{
+    memcpy(file + file_length, bytes, length);
+    file_length += length;
+}
+
+static void add_head(unsigned tag, size_t length)
+{
+    const uint8_t head[3] = {(uint8_t)tag, (uint8_t)length, (uint8_t)(length >> 8)};
+
+    add_bytes(head, sizeof head);
+}
+
+static void add_block(size_t length)
+{
+    add_head(3, length);
+    add_bytes(ram, length);
+}
+
+/* Tags 1 and 2, of the machine under test. */
+static void begin_file(void)
+{
+    uint8_t image[MODEL_IMAGE_BYTES];
+
+    put_image(image);
+    file_length = 0;
+    add_head(1, 176);
+    add_bytes(image, 176);
+    add_head(2, 256);
+    add_bytes(image + 176, 256);
+}
+
+/* Tags 4 and 0. */
+static void end_file(void)
+{
+    add_head(4, 1024);
+    add_bytes(pad, 1024);
+    add_head(0, 0);
+}
+
+/* ---- What is shared, from the definition */
+
+/* Whether the head of a field stands there; if not, *shared takes how much of the file is good up to there. */
+static bool head_stands(size_t at, unsigned tag, size_t length, size_t *shared)
+{
+    const uint8_t head[3] = {(uint8_t)tag, (uint8_t)length, (uint8_t)(length >> 8)};
+    unsigned i;
+
+    for (i = 0; i < 3; i++) {
+        *shared = at + i < file_length ? at + i : file_length;
+        if (at + i >= file_length || file[at + i] != head[i])
+            return false;
+    }
+    return true;
+}
+
+/* How much of the file is the beginning of the well-formed file with so much RAM and the same contents; all of that one if *whole. */
+static size_t shared_with(size_t ram_bytes, bool *whole)
+{
+    size_t at = FIRST_BLOCK, left, shared;
+
+    *whole = false;
+    if (!head_stands(0, 1, 176, &shared) || !head_stands(179, 2, 256, &shared))
+        return shared;
+    for (left = ram_bytes; left > 0; left -= left < 32768 ? left : 32768) {
+        if (!head_stands(at, 3, left < 32768 ? left : 32768, &shared))
+            return shared;
+        at += 3 + (left < 32768 ? left : 32768);
+    }
+    if (!head_stands(at, 4, 1024, &shared) || !head_stands(at + 1027, 0, 0, &shared))
+        return shared;
+    *whole = true;
+    return at + 1030;
+}
+
+/* The longest of these over every RAM that could make a difference; *total takes the RAM of the file where it is well formed. */
+static size_t longest_shared(size_t *total)
+{
+    size_t longest = 0, ram_bytes, shared;
+    bool whole;
+
+    *total = 0;
+    for (ram_bytes = 1; ram_bytes <= file_length + 65536; ram_bytes++) {
+        shared = shared_with(ram_bytes, &whole);
+        if (shared > longest)
+            longest = shared;
+        if (whole && shared == file_length)
+            *total = ram_bytes;
+    }
+    return longest;
+}
+
+/* The load answers what the definition says, for a file with a well-formed image. */
+static void loads_by_definition(const char *what)
+{
+    size_t total, shared = longest_shared(&total);
+    struct model_answer a = load();
+
+    if (total == 0)
+        answers(what, a, MODEL_FILE, shared);
+    else
+        answers(what, a, total == ram_length ? MODEL_DONE : MODEL_SPACE, 0);
+}
+
+/* ---- Tests */
+
+static void malformed(const char *what, uint64_t number)
+{
+    answers(what, load(), MODEL_FILE, number);
+}
+
+/* Every field where it belongs, and the bytes that are used. */
+static void saved_layout(void)
+{
+    static const size_t lengths[] = {4, 8, 4096, 32764, 32768, 32772, 65532, 65536, 65540, 98304, 98308, 1500000, 2097148, 2097152};
+    uint8_t image[MODEL_IMAGE_BYTES];
+    size_t i, needed, place, at;
+
+    for (i = 0; i < sizeof lengths / sizeof *lengths; i++) {
+        size_t length = lengths[i], blocks = 0;
+
+        fresh_saved(length);
+        word[1] = 0x12345678;
+        set(63, 0x7FFFF000);
+        needed = saved_bytes(length);
+        answers("save, no space", save(0), MODEL_SPACE, 0);
+        answers("save, a byte too few", save(needed - 1), MODEL_SPACE, 0);
+        answers("save, half of the space", save(needed / 2), MODEL_SPACE, 0);
+        answers("save, a byte more", save(needed + 1), MODEL_DONE, needed);
+        answers("save, much more", save(needed + 5000), MODEL_DONE, needed);
+        answers("save, just enough", save(needed), MODEL_DONE, needed);
+
+        put_image(image);
+        equal("tag 1", file[0] | file[1] << 8 | file[2] << 16, 0x00B001);
+        equal("words 0..43", memcmp(file + 3, image, 176), 0);
+        equal("tag 2", file[179] | file[180] << 8 | file[181] << 16, 0x010002);
+        equal("COP2 words", memcmp(file + 182, image + 176, 256), 0);
+        for (place = 0, at = FIRST_BLOCK; place < length; place += 32768) {
+            size_t block = length - place < 32768 ? length - place : 32768;
+
+            equal("tag 3", file[at], 3);
+            equal("tag 3, length", file[at + 1] + 256u * file[at + 2], block);
+            equal("tag 3, content", memcmp(file + at + 3, ram + place, block), 0);
+            at += 3 + block;
+            blocks++;
+        }
+        equal("blocks", blocks, (length + 32767) / 32768);
+        equal("tag 4", file[at] | file[at + 1] << 8 | file[at + 2] << 16, 0x040004);
+        equal("pad", memcmp(file + at + 3, pad, 1024), 0);
+        equal("tag 0", file[at + 1027] | file[at + 1028] << 8 | file[at + 1029] << 16, 0);
+        equal("nothing after it", at + 1030, needed);
+
+        answers("load", load(), MODEL_DONE, 0);
+        equal("load, image", memcmp(loaded_image, image, sizeof image), 0);
+        equal("load, RAM", memcmp(loaded_ram, ram, length), 0);
+        equal("load, pad", memcmp(loaded_pad, pad, 1024), 0);
+        file_length--;
+        malformed("a byte less", needed - 1);
+        file_length += 2;
+        malformed("a byte more", needed);
+    }
+    equal("T-64, 2 MiB", needed, 2098812);
+    fresh_saved(4);
+    answers("4 bytes of RAM", save(2000), MODEL_DONE, 1475);
+}
+
+/* T-63, and what is beside it. */
+static void malformed_files(void)
+{
+    static const uint8_t nothing[4] = {0};
+    size_t i;
+
+    fresh_saved(4);
+    file_length = 0;
+    malformed("an empty file", 0);
+    begin_file();
+    end_file();
+    malformed("no tag 3", 438);
+    begin_file();
+    malformed("no tag 3, and nothing else", 438);
+    begin_file();
+    add_head(3, 0xFF05);
+    add_bytes(ram, 4);
+    malformed("03 05 FF", 440);
+    file_length = FIRST_BLOCK + 2;
+    malformed("03 05", 440);
+    begin_file();
+    add_head(3, 0x8001);
+    malformed("03 01 80", 440);
+    begin_file();
+    add_head(3, 0x8000);
+    malformed("03 00 80", 441);
+    begin_file();
+    add_head(3, 0x7FFF);
+    malformed("03 FF 7F", 441);
+    begin_file();
+    add_head(3, 0x8100);
+    malformed("03 00 81", 440);
+    begin_file();
+    add_head(3, 0);
+    malformed("03 00 00", 440);
+    begin_file();
+    add_head(3, 0x0100);
+    malformed("03 00 01", 441);
+
+    fresh_saved(32768);
+    begin_file();
+    add_block(32768);
+    malformed("cut behind a full block", 33209);
+    add_block(0);
+    end_file();
+    malformed("second block of length 0 after a full one", 33211);
+    begin_file();
+    add_block(32768);
+    add_head(5, 4);
+    malformed("neither RAM nor pad behind a full block", 33209);
+    begin_file();
+    add_block(32768);
+    add_block(32768);
+    add_block(0);
+    end_file();
+    malformed("third block of length 0", 33211 + 32771);
+    begin_file();
+    add_block(32768);
+    add_head(3, 0x8001);
+    malformed("second block too long", 33211);
+    begin_file();
+    add_block(32767);
+    malformed("cut behind a block of 32,767", 33208);
+    add_block(1);
+    end_file();
+    malformed("a block after one of 32,767", 33208);
+
+    fresh_saved(4);
+    begin_file();
+    add_block(4);
+    add_block(4);
+    end_file();
+    malformed("a block after a short block", 445);
+    begin_file();
+    add_block(4);
+    add_block(32768);
+    end_file();
+    malformed("a full block after a short block", 445);
+    begin_file();
+    add_block(4);
+    add_head(0, 0);
+    malformed("no pad", 445);
+    begin_file();
+    add_block(4);
+    end_file();
+    file_length -= 3;
+    malformed("no end", 1472);
+    add_head(4, 1024);
+    malformed("two pads", 1472);
+    begin_file();
+    add_block(4);
+    end_file();
+    add_bytes(nothing, 1);
+    malformed("a good file and a byte", 1475);
+    add_head(0, 0);
+    malformed("a good file and more", 1475);
+    begin_file();
+    add_head(4, 1024);
+    add_bytes(pad, 1024);
+    add_block(4);
+    add_head(0, 0);
+    malformed("the pad before the RAM", 438);
+    begin_file();
+    add_block(4);
+    add_head(4, 1020);
+    add_bytes(pad, 1020);
+    add_head(0, 0);
+    malformed("a shorter pad", 446);
+    begin_file();
+    add_block(4);
+    add_head(4, 0x0300);
+    malformed("a pad of 768", 447);
+    begin_file();
+    add_block(4);
+    end_file();
+    file[1473] = 1;
+    add_bytes(nothing, 1);
+    malformed("an end with a content", 1473);
+    memmove(file, file + 179, file_length - 179);
+    file_length -= 179;
+    malformed("no tag 1", 0);
+    begin_file();
+    add_block(4);
+    end_file();
+    memmove(file + 179, file + 438, file_length - 438);
+    file_length -= 259;
+    malformed("no tag 2", 179);
+
+    /* not 7, but 8 */
+    begin_file();
+    add_block(5);
+    end_file();
+    answers("a last block of 5 bytes", load(), MODEL_SPACE, 0);
+    ram_length = 8;
+    answers("a last block of 5 bytes, 8 lent", load(), MODEL_SPACE, 0);
+    ram_length = 5;
+    answers("a last block of 5 bytes, 5 lent", load(), MODEL_RAM_LENGTH, 0);
+    fresh_saved(32768);
+    begin_file();
+    for (i = 0; i < 65; i++)
+        add_block(32768);
+    end_file();
+    ram_length = 2097152;
+    answers("65 full blocks", load(), MODEL_SPACE, 0);
+    ram_length = 65 * 32768;
+    answers("65 full blocks, as many lent", load(), MODEL_RAM_LENGTH, 0);
+    ram_length = 4;
+    answers("65 full blocks, 4 lent", load(), MODEL_SPACE, 0);
+    file_length--;
+    malformed("65 full blocks, cut", 1468 + 65 * 32771 - 1);
+    file_length = 438 + 65 * 32771;
+    malformed("65 full blocks and no pad", 438 + 65 * 32771);
+    fresh_saved(32768);
+    begin_file();
+    for (i = 0; i < 64; i++)
+        add_block(32768);
+    add_block(4);
+    end_file();
+    ram_length = 2097152;
+    answers("64 full blocks and 4 bytes", load(), MODEL_SPACE, 0);
+}
+
+/* Every cut, and every value of every byte of a head; contents never matter. */
+static void changed_files(void)
+{
+    static const size_t heads[] = {0, 179, 438, 445, 1472}, lengths[] = {4, 32768, 32772};
+    unsigned value, i, k, different = 0;
+    size_t cut;
+
+    fresh_saved(4);
+    save(1475);
+    for (cut = 0; cut < 1475; cut++) {
+        file_length = cut;
+        malformed("a cut", cut);
+    }
+    for (i = 0; i < sizeof lengths / sizeof *lengths; i++)
+        for (cut = FIRST_BLOCK; cut < saved_bytes(lengths[i]); cut += i == 0 ? 1 : 977) {
+            fresh_saved(lengths[i]);
+            save(saved_bytes(lengths[i]));
+            file_length = cut;
+            malformed("a cut in a longer file", cut);
+        }
+
+    fresh_saved(4);
+    save(1475);
+    for (i = 0; i < sizeof heads / sizeof *heads; i++)
+        for (k = 0; k < 3; k++)
+            for (value = 0; value < 256; value++) {
+                uint8_t *byte = file + heads[i] + k, old = *byte;
+
+                if (value == old)
+                    continue;
+                *byte = (uint8_t)value;
+                if (i == 2 && k > 0) { /* another length of the block: what follows is found elsewhere */
+                    if (k == 1 ? value < 32 || value % 16 == 0 : value == 1 || value >= 126)
+                        loads_by_definition("a changed length of RAM");
+                } else {
+                    malformed("a changed head", heads[i] + k);
+                }
+                *byte = old;
+            }
+    answers("unchanged again", load(), MODEL_DONE, 0);
+    for (cut = 0; cut < 1475; cut++) {
+        bool in_head = false;
+
+        for (i = 0; i < sizeof heads / sizeof *heads; i++)
+            in_head |= cut >= heads[i] && cut < heads[i] + 3;
+        file[cut] ^= 0x5A;
+        if (!in_head)
+            different += load().code == MODEL_FILE;
+        file[cut] ^= 0x5A;
+    }
+    equal("contents that make a file malformed", different, 0);
+}
+
+/* Every set of reasons, and which of them has the word. */
+static void save_refusals(void)
+{
+    static const unsigned order[] = {1, 3, 6, 2, 8};
+    static const size_t image_lengths[] = {0, 1, 428, 431, 433, 436, 452}, ram_lengths[] = {0, 1, 2, 3, 5, 6, 7, 2097153, 2097156};
+    static const size_t pad_lengths[] = {0, 1, 1020, 1023, 1025, 1028, 2048};
+    unsigned wrong, i;
+
+    for (wrong = 0; wrong < 32; wrong++) {
+        unsigned expected = 0;
+
+        for (i = 5; i-- > 0;)
+            if (wrong >> i & 1)
+                expected = order[i];
+        fresh_saved(32772);
+        ram_length = wrong & 2 ? 32770 : 32772;
+        pad_length = wrong & 4 ? 1023 : 1024;
+        word[43] = wrong >> 3 & 1;
+        answers("save, refusals together", save_length(wrong & 1 ? 431 : 432, wrong & 16 ? 34245 : 34246), expected,
+                expected ? 0 : 34246);
+    }
+    for (i = 0; i < sizeof image_lengths / sizeof *image_lengths; i++) {
+        fresh_saved(4);
+        answers("save, image length", save_length(image_lengths[i], 1475), MODEL_IMAGE_LENGTH, 0);
+    }
+    for (i = 0; i < sizeof ram_lengths / sizeof *ram_lengths; i++) {
+        fresh_saved(4);
+        ram_length = ram_lengths[i];
+        answers("save, RAM length", save(2100000), MODEL_RAM_LENGTH, 0);
+    }
+    for (i = 0; i < sizeof pad_lengths / sizeof *pad_lengths; i++) {
+        fresh_saved(4);
+        pad_length = pad_lengths[i];
+        answers("save, pad length", save(1475), MODEL_PAD_LENGTH, 0);
+    }
+    for (i = 0; i < 1475; i++) {
+        fresh_saved(4);
+        answers("save, short space", save(i), MODEL_SPACE, 0);
+    }
+}
+
+static void load_refusals(void)
+{
+    static const unsigned order[] = {1, 3, 6, 7, 2, 8};
+    static const size_t image_lengths[] = {0, 1, 428, 431, 433, 436, 452}, ram_lengths[] = {0, 1, 2, 3, 5, 6, 7, 2097153, 2097156};
+    static const size_t pad_lengths[] = {0, 1, 1020, 1023, 1025, 1028, 2048};
+    unsigned wrong, i;
+
+    for (wrong = 0; wrong < 64; wrong++) {
+        unsigned expected = 0;
+        size_t lent = wrong & 32 ? 32768 : 32772;
+
+        for (i = 6; i-- > 0;)
+            if (wrong >> i & 1)
+                expected = order[i];
+        fresh_saved(32772);
+        word[43] = wrong >> 4 & 1;
+        begin_file();
+        add_block(32768);
+        add_block(4);
+        end_file();
+        file_length += wrong >> 3 & 1;
+        ram_length = wrong & 2 ? lent + 2 : lent;
+        pad_length = wrong & 4 ? 1023 : 1024;
+        answers("load, refusals together", load_length(wrong & 1 ? 431 : 432), expected, expected == 7 ? 34246 : 0);
+    }
+    fresh_saved(4);
+    save(1475);
+    for (i = 0; i < sizeof image_lengths / sizeof *image_lengths; i++)
+        answers("load, image length", load_length(image_lengths[i]), MODEL_IMAGE_LENGTH, 0);
+    for (i = 0; i < sizeof ram_lengths / sizeof *ram_lengths; i++) {
+        ram_length = ram_lengths[i];
+        answers("load, RAM length", load(), MODEL_RAM_LENGTH, 0);
+    }
+    ram_length = 4;
+    for (i = 0; i < sizeof pad_lengths / sizeof *pad_lengths; i++) {
+        pad_length = pad_lengths[i];
+        answers("load, pad length", load(), MODEL_PAD_LENGTH, 0);
+    }
+    pad_length = 1024;
+    for (ram_length = 8; ram_length <= 70000; ram_length += 4)
+        if (load().code != MODEL_SPACE)
+            equal("load, another RAM", true, false);
+    ram_length = 4;
+    for (i = 0; i < MODEL_IMAGE_WORDS; i++) { /* the file's image, and not what was lent before */
+        fresh_saved(4);
+        word[i] ^= 0x80000000;
+        begin_file();
+        add_block(4);
+        end_file();
+        equal("load, a word of the image", load().code, run(0) / MODEL_CODE_UNIT);
+    }
+}
+
+/* Random blocks and damage: the number by the definition, and what is accepted is what a save writes of it. */
+static void random_files(void)
+{
+    static const size_t lengths[] = {32768, 32768, 32768, 1, 4, 0, 32767, 32769, 8};
+    unsigned i, k, accepted = 0, refused = 0, other = 0;
+    static uint8_t before[sizeof file];
+
+    for (i = 0; i < 400; i++) {
+        unsigned blocks = 1 + random_below(3);
+        struct model_answer a;
+        size_t total = 0;
+
+        fresh_saved(32772);
+        begin_file();
+        for (k = 0; k < blocks; k++) {
+            size_t length = lengths[random_below(random_below(2) ? 5 : sizeof lengths / sizeof *lengths)];
+
+            add_head(3, length);
+            add_bytes(ram, length);
+            total += length;
+        }
+        end_file();
+        if (random_below(3) == 0)
+            file[FIRST_BLOCK + random_below((uint32_t)file_length - FIRST_BLOCK)] ^= (uint8_t)(1u << random_below(8));
+        if (random_below(6) == 0)
+            file_length -= random_below(1100);
+        ram_length = random_below(8) ? total : 4;
+        if (ram_length % 4 != 0 || ram_length == 0)
+            ram_length = 4;
+        loads_by_definition("a random file");
+        a = load();
+        if (a.code != MODEL_DONE) {
+            refused++;
+            continue;
+        }
+        accepted++;
+        memcpy(before, file, file_length);
+        get_image(loaded_image);
+        memcpy(ram, loaded_ram, ram_length);
+        memcpy(pad, loaded_pad, MODEL_PAD_BYTES);
+        total = file_length;
+        other += save(total).number != total || memcmp(before, file, total) != 0;
+    }
+    equal("accepted files that a save writes otherwise", other, 0);
+    equal("files accepted", accepted > 50, true);
+    equal("files refused", refused > 50, true);
+}
+
+static void saved_machines(void)
+{
+    saved_layout();
+    malformed_files();
+    changed_files();
+    save_refusals();
+    load_refusals();
+    random_files();
+}
+
 /* ---- The disassembler -------------------------------------------------------- */
 
 static void text(uint32_t instruction, const char *expected)
@@ -2804,6 +3429,7 @@ int main(void)
     cause_spaces();
     cause_refusals();
     causes_of_random_commands();
+    saved_machines();
     disassembler();
     printf("%d passed, %d failed\n", passed, failed);
     return failed != 0;
