@@ -4,6 +4,7 @@
 #include "disassemble.h"
 #include "encode.h"
 #include "model.h"
+#include "saved.h"
 
 #include <stdarg.h>
 #include <stdio.h>
@@ -164,6 +165,69 @@ static const char *const space_names[SPACE_KINDS] = {
     "just enough words", "more words than needed", "no word for no row", "some words for no row",
 };
 
+/* Of a save, which has no file, and of a load: the reasons to refuse, in the order of their tests. */
+#define SAVE_REASONS 5
+#define LOAD_REASONS 6
+
+static const unsigned save_reason_codes[SAVE_REASONS] = {MODEL_IMAGE_LENGTH, MODEL_RAM_LENGTH, MODEL_PAD_LENGTH, MODEL_IMAGE_FORM,
+                                                         MODEL_SPACE};
+static const unsigned load_reason_codes[LOAD_REASONS] = {MODEL_IMAGE_LENGTH, MODEL_RAM_LENGTH, MODEL_PAD_LENGTH, MODEL_FILE,
+                                                         MODEL_IMAGE_FORM, MODEL_SPACE};
+
+/* The bytes lent to a save that is refused for nothing else. */
+enum { NO_BYTE, BYTE_SHORT, BYTES_SHORT, ENOUGH_BYTES, MORE_BYTES, BYTE_SPACES };
+
+static const char *const byte_space_names[BYTE_SPACES] = {
+    "no byte", "a byte too few", "some bytes too few", "just enough bytes", "more bytes than needed",
+};
+
+/* The RAM of machines that were saved or loaded. */
+enum { SHORT_BLOCK, FULL_BLOCK, FULL_AND_4, FULL_AND_SHORT, FULL_BLOCKS, MOST_RAM, RAM_KINDS };
+
+static const char *const ram_names[RAM_KINDS] = {
+    "one short block", "one full block", "a full block and 4 bytes", "full blocks and a short one", "full blocks",
+    "the greatest RAM",
+};
+
+/* Files that were refused with code 8, and with code 2 by the field that is wrong. */
+enum { LESS_RAM, MORE_RAM, AS_MANY_BLOCKS, ODD_RAM, ABOVE_MOST, WORDS_WRONG, COP2_WRONG, LOAD_KINDS };
+
+static const char *const load_names[LOAD_KINDS] = {
+    "less RAM than lent", "more RAM than lent", "other RAM in as many blocks", "RAM no multiple of 4", "RAM above the greatest",
+    "words 0..43 wrong", "COP2 words wrong",
+};
+
+/*
+ * Where a malformed file ceases to be the beginning of a well-formed one: in
+ * which field, at which byte of its head or in its content, and whether the
+ * byte there is wrong or the file ends. Behind a block the field is not known
+ * before its tag.
+ */
+enum { AT_IMAGE, AT_COP2, AT_FIRST_BLOCK, AFTER_FULL, AFTER_SHORT, AT_LATER_BLOCK, AT_PAD, AT_END, AFTER_END, STOP_FIELDS };
+enum { AT_TAG, AT_LOW, AT_HIGH, AT_CONTENT, STOP_BYTES };
+enum { WRONG_BYTE, FILE_ENDS, STOP_REASONS };
+
+static const char *const stop_field_names[STOP_FIELDS] = {
+    "tag 1", "tag 2", "first tag 3", "behind a full block", "behind a short block", "later tag 3", "tag 4", "tag 0",
+    "behind the end",
+};
+static const char *const stop_byte_names[STOP_BYTES] = {"tag", "low byte", "high byte", "content"};
+static const char *const stop_reason_names[STOP_REASONS] = {"wrong", "missing"};
+
+/* Those that can be: two bits for each byte of the head and for the content, the lower one where the byte can be wrong. */
+static const uint8_t possible_stops[STOP_FIELDS] = {
+    [AT_IMAGE] = 0xBF, [AT_COP2] = 0xBF, [AT_FIRST_BLOCK] = 0xBB, [AFTER_FULL] = 0x03, [AFTER_SHORT] = 0x03,
+    [AT_LATER_BLOCK] = 0xB8, [AT_PAD] = 0xBC, [AT_END] = 0x3F, [AFTER_END] = 0x01,
+};
+
+/* Blocks that make a file malformed, the first one or one behind a full block. */
+enum { EMPTY_BLOCK, LONG_BLOCK, LONG_BLOCK_LOW_0, BLOCK_OF_80XX, WRONG_BLOCKS, BLOCK_AFTER_SHORT = 2 * WRONG_BLOCKS, BLOCK_KINDS };
+
+static const char *const block_names[BLOCK_KINDS] = {
+    "first one empty", "first one too long", "first one too long, low 0", "first one of 80xxh",
+    "later one empty", "later one too long", "later one too long, low 0", "later one of 80xxh", "behind a short one",
+};
+
 /* What RTPS and RTPT divided: SZ3 by its leading zeros, and the limit with and without bit 17. */
 enum { LIMIT_UNFLAGGED = 16, LIMIT_FLAGGED, QUOTIENT_KINDS };
 
@@ -203,6 +267,10 @@ static uint64_t question_codes[MODEL_SPACE + 1], spaces[SPACE_KINDS];
 static uint64_t question_forms[COMMANDS][4], question_mvmva_forms[256]; /* by sf and lm; by sf, mx, v, cv, lm */
 static uint64_t causes[COMMANDS][3][LINES][31]; /* by part, line and bit */
 static uint64_t impossible_causes[COMMANDS];
+static uint64_t save_codes[MODEL_SPACE + 1], load_codes[MODEL_SPACE + 1];
+static uint64_t save_refusals[SAVE_REASONS][SAVE_REASONS], load_refusals[LOAD_REASONS][LOAD_REASONS]; /* as refusals */
+static uint64_t byte_spaces[BYTE_SPACES], saved_rams[RAM_KINDS], loaded_rams[RAM_KINDS], load_kinds[LOAD_KINDS];
+static uint64_t stops[STOP_FIELDS][STOP_BYTES][STOP_REASONS], wrong_blocks[BLOCK_KINDS];
 
 static int find_index(uint32_t word)
 {
@@ -448,6 +516,21 @@ static void count_window(const struct window *w)
     }
 }
 
+/* Counts in a square table the one reason or the two that apply. */
+static void count_reasons(uint64_t *table, const bool *applies, unsigned reasons)
+{
+    unsigned i, number = 0, first = reasons, last = 0;
+
+    for (i = 0; i < reasons; i++)
+        if (applies[i]) {
+            number++;
+            first = first == reasons ? i : first;
+            last = i;
+        }
+    if (number == 1 || number == 2)
+        table[first * reasons + last]++;
+}
+
 /* An image of the wrong length is not asked for its form. */
 static void count_refusal(const struct test_case *c)
 {
@@ -456,16 +539,8 @@ static void count_refusal(const struct test_case *c)
     const bool applies[REASONS] = {short_or_long, !short_or_long && !model_load(&machine, c->image),
                                    bad_ram_length(c->ram_length), c->pad_length != MODEL_PAD_BYTES,
                                    c->count > MODEL_COUNT_MAXIMUM};
-    unsigned i, number = 0, first = REASONS, last = 0;
 
-    for (i = 0; i < REASONS; i++)
-        if (applies[i]) {
-            number++;
-            first = first == REASONS ? i : first;
-            last = i;
-        }
-    if (number == 1 || number == 2)
-        refusals[first][last]++;
+    count_reasons(&refusals[0][0], applies, REASONS);
 }
 
 /* Whether line k of the table is one of the command's. */
@@ -530,6 +605,175 @@ static void count_question(const struct test_case *c, const struct question *q)
     count_rows(q->command, words, (size_t)a.number);
 }
 
+static bool well_formed(const uint8_t *image)
+{
+    struct model machine;
+
+    return model_load(&machine, image);
+}
+
+static void count_ram(uint64_t *kinds, size_t length)
+{
+    const size_t block = 32768;
+
+    kinds[SHORT_BLOCK] += length < block;
+    kinds[FULL_BLOCK] += length == block;
+    kinds[FULL_AND_4] += length == block + 4;
+    kinds[FULL_AND_SHORT] += length > 2 * block && length % block != 0;
+    kinds[FULL_BLOCKS] += length >= 2 * block && length % block == 0;
+    kinds[MOST_RAM] += length == MODEL_RAM_MAXIMUM;
+}
+
+/* Of a RAM of any length, so that a bad one and a short space are met together. */
+static size_t saved_bytes(size_t ram_length)
+{
+    return 1468 + ram_length + 3 * ((ram_length + 32767) / 32768);
+}
+
+static void count_save(const struct test_case *c, const struct saved_case *v, struct model_answer a)
+{
+    size_t needed = saved_bytes(v->ram_length);
+    bool short_or_long = c->image_length != MODEL_IMAGE_BYTES;
+    const bool applies[SAVE_REASONS] = {short_or_long, bad_ram_length(v->ram_length), c->pad_length != MODEL_PAD_BYTES,
+                                        !short_or_long && !well_formed(c->image), v->space_length < needed};
+
+    save_codes[a.code]++;
+    count_reasons(&save_refusals[0][0], applies, SAVE_REASONS);
+    if (a.code == MODEL_DONE)
+        count_ram(saved_rams, v->ram_length);
+    if (a.code == MODEL_DONE || a.code == MODEL_SPACE)
+        byte_spaces[v->space_length == 0             ? NO_BYTE
+                    : v->space_length == needed - 1 ? BYTE_SHORT
+                    : v->space_length < needed      ? BYTES_SHORT
+                    : v->space_length == needed     ? ENOUGH_BYTES
+                                                    : MORE_BYTES]++;
+}
+
+/* Where in the fields of a file a number stands; up to there the file is well formed. */
+struct place_in_file {
+    unsigned field, byte;
+    size_t ram_length; /* of the blocks that are whole */
+    bool behind_ram; /* no block can follow */
+};
+
+static unsigned field_behind(unsigned tag, size_t length)
+{
+    switch (tag) {
+    case 1: return AT_COP2;
+    case 2: return AT_FIRST_BLOCK;
+    case 3: return length == 32768 ? AFTER_FULL : AFTER_SHORT;
+    case 4: return AT_END;
+    default: return AFTER_END;
+    }
+}
+
+static struct place_in_file find_place(const uint8_t *file, size_t number)
+{
+    struct place_in_file p = {AT_IMAGE, AT_TAG, 0, false};
+    size_t at = 0, length;
+
+    for (;;) {
+        p.behind_ram = p.field == AFTER_SHORT || p.field >= AT_PAD;
+        if (number == at)
+            return p;
+        if (p.field == AFTER_FULL || p.field == AFTER_SHORT)
+            p.field = file[at] == 4 ? AT_PAD : AT_LATER_BLOCK;
+        p.behind_ram = p.field >= AT_PAD;
+        p.byte = (unsigned)(number - at < 3 ? number - at : AT_CONTENT);
+        if (number < at + 3)
+            return p;
+        length = file[at + 1] + (size_t)256 * file[at + 2];
+        if (number < at + 3 + length)
+            return p;
+        p.ram_length += file[at] == 3 ? length : 0;
+        p.field = field_behind(file[at], length);
+        p.byte = AT_TAG;
+        at += 3 + length;
+    }
+}
+
+/* A high byte that no block can have. */
+static void count_wrong_high(const uint8_t *head, uint64_t *kinds)
+{
+    kinds[EMPTY_BLOCK] += head[1] == 0 && head[2] == 0;
+    kinds[LONG_BLOCK] += head[1] != 0 && head[2] > 0x80;
+    kinds[LONG_BLOCK_LOW_0] += head[1] == 0 && head[2] > 0x80;
+    kinds[BLOCK_OF_80XX] += head[1] != 0 && head[2] == 0x80;
+}
+
+static void count_malformed(const struct saved_case *v, const struct place_in_file *p, size_t number)
+{
+    unsigned reason = number == v->file_length ? FILE_ENDS : WRONG_BYTE;
+
+    stops[p->field][p->byte][reason]++;
+    if (reason == WRONG_BYTE && p->byte == AT_HIGH && p->field == AT_FIRST_BLOCK)
+        count_wrong_high(v->file + number - 2, wrong_blocks);
+    if (reason == WRONG_BYTE && p->byte == AT_HIGH && p->field == AT_LATER_BLOCK)
+        count_wrong_high(v->file + number - 2, wrong_blocks + WRONG_BLOCKS);
+    wrong_blocks[BLOCK_AFTER_SHORT] += reason == WRONG_BYTE && p->field == AFTER_SHORT && v->file[number] == 3;
+}
+
+/* A file that says another RAM or a wrong image, and a load that is refused for it alone. */
+static void count_refused_load(const struct saved_case *v, uint64_t code, size_t total, const uint8_t *image)
+{
+    uint8_t part[MODEL_IMAGE_BYTES];
+
+    if (code == MODEL_SPACE) {
+        load_kinds[total < v->lent_ram_length ? LESS_RAM : MORE_RAM]++;
+        load_kinds[AS_MANY_BLOCKS] += (total + 32767) / 32768 == (v->lent_ram_length + 32767) / 32768;
+        load_kinds[ODD_RAM] += total % 4 != 0;
+        load_kinds[ABOVE_MOST] += total > MODEL_RAM_MAXIMUM;
+    }
+    if (code == MODEL_IMAGE_FORM) {
+        fliskadee_fresh_image(part);
+        memcpy(part, image, 176);
+        load_kinds[WORDS_WRONG] += !well_formed(part);
+        fliskadee_fresh_image(part);
+        memcpy(part + 176, image + 176, 256);
+        load_kinds[COP2_WRONG] += !well_formed(part);
+    }
+}
+
+/* Of a malformed file, what it says of image and RAM counts as far as it is the beginning of a well-formed one. */
+static void count_load_file(const struct saved_case *v, struct model_answer a)
+{
+    static uint8_t ram[CASE_RAM_CAPACITY], pad[MODEL_PAD_BYTES];
+    uint8_t image[MODEL_IMAGE_BYTES];
+    struct model_answer alone = model_load_file(v->file, v->file_length, image, sizeof image, ram, 4, pad, sizeof pad);
+    bool malformed = alone.code == MODEL_FILE;
+    size_t number = malformed ? (size_t)alone.number : v->file_length;
+    struct place_in_file p = find_place(v->file, number);
+    bool has_image = number >= 438;
+    bool applies[LOAD_REASONS] = {v->lent_image_length != MODEL_IMAGE_BYTES, bad_ram_length(v->lent_ram_length),
+                                  v->lent_pad_length != MODEL_PAD_BYTES, malformed, false,
+                                  p.behind_ram && p.ram_length != v->lent_ram_length};
+
+    if (has_image) {
+        memcpy(image, v->file + 3, 176);
+        memcpy(image + 176, v->file + 182, 256);
+        applies[4] = !well_formed(image);
+    }
+    load_codes[a.code]++;
+    count_reasons(&load_refusals[0][0], applies, LOAD_REASONS);
+    if (a.code == MODEL_DONE)
+        count_ram(loaded_rams, v->lent_ram_length);
+    if (a.code == MODEL_FILE)
+        count_malformed(v, &p, number);
+    count_refused_load(v, a.code, p.ram_length, image);
+}
+
+static void count_saved(const struct test_case *c, const struct case_answers *answers)
+{
+    struct saved_case v;
+    unsigned i;
+
+    for (i = 0; i < CASE_SAVED; i++) {
+        generate_saved(&v, c, i);
+        count_save(c, &v, answers->saves[i]);
+        count_load_file(&v, answers->loads[i]);
+    }
+}
+
 static void walk(struct test_case *c, uint64_t steps)
 {
     const struct model_memory memory = {c->ram, c->ram_length, c->pad};
@@ -573,6 +817,7 @@ void coverage_add(struct test_case *c, const struct case_answers *answers)
     for (i = 0; i < CASE_QUESTIONS; i++)
         count_question(c, &c->questions[i]);
     count_refusal(c);
+    count_saved(c, answers);
     if (code == MODEL_DONE || code == MODEL_UNLISTED)
         walk(c, answers->run % MODEL_CODE_UNIT);
 }
@@ -602,7 +847,9 @@ static void tally(struct tally *t, bool reached, const char *format, ...)
 enum {
     ALL_INSTRUCTIONS, ALL_COMMANDS, ALL_FORMS, ALL_MVMVA, BITS_SET, BITS_CLEAR, BITS_IMPOSSIBLE, OUTSIDE_SLOTS,
     IN_SLOTS, ALL_EVENTS, RUN_CODES, SEARCH_CODES, ALL_REFUSALS, ALL_WINDOWS, IN_THE_PAD, AROUND_THE_PAD, ALL_FETCHES,
-    ALL_QUOTIENTS, ALL_ENTRIES, ALL_PERSPECTIVES, QUESTION_CODES, ALL_SPACES, QUESTION_FORMS, ALL_CAUSES, CAUSES_IMPOSSIBLE, TALLIES
+    ALL_QUOTIENTS, ALL_ENTRIES, ALL_PERSPECTIVES, QUESTION_CODES, ALL_SPACES, QUESTION_FORMS, ALL_CAUSES, CAUSES_IMPOSSIBLE,
+    SAVE_CODES, LOAD_CODES, SAVE_REFUSALS, LOAD_REFUSALS, ALL_BYTE_SPACES, SAVED_RAMS, LOADED_RAMS, ALL_LOADS, ALL_STOPS,
+    STOPS_IMPOSSIBLE, ALL_BLOCKS, TALLIES
 };
 
 static void tally_instructions(struct tally *t)
@@ -734,6 +981,52 @@ static void tally_pad(struct tally *t)
         tally(&t[ALL_FETCHES], pad_fetches[i] != 0, "%s", pad_fetch_names[i]);
 }
 
+/* Of a malformed file, every place at which it can cease to be well formed. */
+static void tally_stops(struct tally *t)
+{
+    unsigned i, k, reason;
+
+    for (i = 0; i < STOP_FIELDS; i++)
+        for (k = 0; k < STOP_BYTES; k++)
+            for (reason = 0; reason < STOP_REASONS; reason++) {
+                bool possible = possible_stops[i] >> (2 * k + reason) & 1, reached = stops[i][k][reason] != 0;
+
+                tally(&t[possible ? ALL_STOPS : STOPS_IMPOSSIBLE], reached == possible, "%s, %s %s", stop_field_names[i],
+                      stop_byte_names[k], stop_reason_names[reason]);
+            }
+}
+
+/* Of an image of the wrong length, whether a save finds its form wrong as well is not asked. */
+static void tally_saved(struct tally *t)
+{
+    unsigned i, k;
+
+    for (i = 0; i < SAVE_REASONS; i++)
+        for (k = i; k < SAVE_REASONS; k++)
+            if (i != 0 || k != 3)
+                tally(&t[SAVE_REFUSALS], save_refusals[i][k] != 0, "%u with %u", save_reason_codes[i], save_reason_codes[k]);
+    for (i = 0; i < LOAD_REASONS; i++)
+        for (k = i; k < LOAD_REASONS; k++)
+            tally(&t[LOAD_REFUSALS], load_refusals[i][k] != 0, "%u with %u", load_reason_codes[i], load_reason_codes[k]);
+    tally(&t[SAVE_CODES], save_codes[MODEL_DONE] != 0, "%u", MODEL_DONE);
+    for (i = 0; i < SAVE_REASONS; i++)
+        tally(&t[SAVE_CODES], save_codes[save_reason_codes[i]] != 0, "%u", save_reason_codes[i]);
+    tally(&t[LOAD_CODES], load_codes[MODEL_DONE] != 0, "%u", MODEL_DONE);
+    for (i = 0; i < LOAD_REASONS; i++)
+        tally(&t[LOAD_CODES], load_codes[load_reason_codes[i]] != 0, "%u", load_reason_codes[i]);
+    for (i = 0; i < BYTE_SPACES; i++)
+        tally(&t[ALL_BYTE_SPACES], byte_spaces[i] != 0, "%s", byte_space_names[i]);
+    for (i = 0; i < RAM_KINDS; i++) {
+        tally(&t[SAVED_RAMS], saved_rams[i] != 0, "%s", ram_names[i]);
+        tally(&t[LOADED_RAMS], loaded_rams[i] != 0, "%s", ram_names[i]);
+    }
+    for (i = 0; i < LOAD_KINDS; i++)
+        tally(&t[ALL_LOADS], load_kinds[i] != 0, "%s", load_names[i]);
+    for (i = 0; i < BLOCK_KINDS; i++)
+        tally(&t[ALL_BLOCKS], wrong_blocks[i] != 0, "%s", block_names[i]);
+    tally_stops(t);
+}
+
 static void tally_all(struct tally t[TALLIES])
 {
     static const char *const kinds[TALLIES] = {
@@ -762,6 +1055,17 @@ static void tally_all(struct tally t[TALLIES])
         [QUESTION_FORMS] = "forms of commands asked for causes",
         [ALL_CAUSES] = "causes by command, part, line and bit",
         [CAUSES_IMPOSSIBLE] = "commands with no cause on a line where none can be",
+        [SAVE_CODES] = "codes of the save",
+        [LOAD_CODES] = "codes of the load",
+        [SAVE_REFUSALS] = "reasons to refuse a save, alone and two together",
+        [LOAD_REFUSALS] = "reasons to refuse a load, alone and two together",
+        [ALL_BYTE_SPACES] = "kinds of bytes lent to a save",
+        [SAVED_RAMS] = "kinds of RAM saved",
+        [LOADED_RAMS] = "kinds of RAM loaded",
+        [ALL_LOADS] = "kinds of files that are well formed and refused",
+        [ALL_STOPS] = "places at which a malformed file ceases to be well formed",
+        [STOPS_IMPOSSIBLE] = "places at which none can and none did",
+        [ALL_BLOCKS] = "kinds of blocks that make a file malformed",
     };
     unsigned i;
 
@@ -792,6 +1096,7 @@ static void tally_all(struct tally t[TALLIES])
     for (i = 0; i < 2 * BITS_LEFT; i++)
         tally(&t[ALL_PERSPECTIVES], perspectives[i] != 0, "%s", perspective_names[i]);
     tally_questions(t);
+    tally_saved(t);
 }
 
 const char *coverage_missing(void)
@@ -873,7 +1178,7 @@ static void print_codes(const char *call, const uint64_t *codes, unsigned last)
 
     printf("answers of the %s by code:", call);
     for (i = 0; i <= last; i++)
-        if (i <= MODEL_PAD_LENGTH || i == last)
+        if (i <= MODEL_PAD_LENGTH || i == last || codes[i] != 0)
             printf(" %u: %llu", i, (unsigned long long)codes[i]);
     printf("\n");
 }
@@ -909,15 +1214,37 @@ static void print_pad(void)
     print_names("fetches in and around the pad", pad_fetch_names, pad_fetches, PAD_FETCHES);
 }
 
-static void print_refusals(void)
+static void print_refusals(const char *call, const uint64_t *table, const unsigned *codes, unsigned reasons)
 {
     unsigned i, k;
 
-    printf("reasons to refuse a run (n+n: alone):");
-    for (i = 0; i < REASONS; i++)
-        for (k = i; k < REASONS; k++)
-            printf(" %u+%u: %llu", reason_codes[i], reason_codes[k], (unsigned long long)refusals[i][k]);
+    printf("reasons to refuse a %s (n+n: alone):", call);
+    for (i = 0; i < reasons; i++)
+        for (k = i; k < reasons; k++)
+            printf(" %u+%u: %llu", codes[i], codes[k], (unsigned long long)table[i * reasons + k]);
     printf("\n");
+}
+
+static void print_saved(void)
+{
+    unsigned i, k;
+
+    print_codes("save", save_codes, MODEL_SPACE);
+    print_refusals("save", &save_refusals[0][0], save_reason_codes, SAVE_REASONS);
+    print_names("bytes lent to a save", byte_space_names, byte_spaces, BYTE_SPACES);
+    print_names("RAM saved", ram_names, saved_rams, RAM_KINDS);
+    print_codes("load", load_codes, MODEL_SPACE);
+    print_refusals("load", &load_refusals[0][0], load_reason_codes, LOAD_REASONS);
+    print_names("RAM loaded", ram_names, loaded_rams, RAM_KINDS);
+    print_names("files that are well formed and refused", load_names, load_kinds, LOAD_KINDS);
+    printf("malformed files (tag, low byte, high byte, content: wrong, missing):\n");
+    for (i = 0; i < STOP_FIELDS; i++) {
+        printf("  %-20s", stop_field_names[i]);
+        for (k = 0; k < STOP_BYTES; k++)
+            printf(" %7llu %6llu", (unsigned long long)stops[i][k][WRONG_BYTE], (unsigned long long)stops[i][k][FILE_ENDS]);
+        printf("\n");
+    }
+    print_names("blocks that make a file malformed", block_names, wrong_blocks, BLOCK_KINDS);
 }
 
 void coverage_print(void)
@@ -936,7 +1263,7 @@ void coverage_print(void)
     print_names("waiting loads", event_names, load_events, LOAD_EVENTS);
     print_codes("run", run_codes, MODEL_PAD_LENGTH);
     print_codes("search", search_codes, MODEL_FLAG_UP);
-    print_refusals();
+    print_refusals("run", &refusals[0][0], reason_codes, REASONS);
     print_pad();
     print_codes("causes", question_codes, MODEL_SPACE);
     print_names("words lent for causes", space_names, spaces, SPACE_KINDS);
@@ -944,6 +1271,7 @@ void coverage_print(void)
     print_names("windows", window_names, windows, WINDOW_KINDS);
     print_names("quotients", quotient_names, quotients, QUOTIENT_KINDS);
     print_names("perspective commands with sf 1", perspective_names, perspectives, 2 * BITS_LEFT);
+    print_saved();
     printf("reached:\n");
     tally_all(t);
     for (i = 0; i < TALLIES; i++)

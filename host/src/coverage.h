@@ -3,10 +3,12 @@
 #define COVERAGE_H
 
 #include "generate.h"
+#include "model.h"
 
-/* What the model answered to the run and to the search. */
+/* What the model answered to the run and to the search, to saves and to loads. */
 struct case_answers {
     uint64_t run, search;
+    struct model_answer saves[CASE_SAVED], loads[CASE_SAVED];
 };
 
 /* Walks the case's run; its image and memories are changed on the way. */

@@ -1,11 +1,12 @@
 /*
  * Differential test: random cases through the library and through the model.
- * Each is run, searched for a bit of FLAG, and asked for windows of RAM and pad
- * and for the causes of FLAG's bits.
+ * Each is run, searched for a bit of FLAG, asked for windows of RAM and pad and
+ * for the causes of FLAG's bits, and saved; and files are loaded.
  *
  *   fuzz N SEED [--coverage] [--whole] [--case K]
  *
- * Runs cases 0..N-1 of the seed, or case K alone. Status 0 when all agree,
+ * Runs cases 0..N-1 of the seed, and then every cut and every other head of two
+ * fixed files; or case K alone. Status 0 when all agree,
  * 1 at the first difference or where --whole is given and the cases did not
  * reach all that can be reached, 2 on bad usage.
  */
@@ -17,6 +18,7 @@
 #include "generate.h"
 #include "fliskadee.h"
 #include "model.h"
+#include "saved.h"
 
 #include <errno.h>
 #include <signal.h>
@@ -102,15 +104,19 @@ static bool guards_intact(const struct buffer *b)
 typedef uint64_t run_function(const struct fliskadee_lent *, uint64_t);
 typedef uint64_t find_flag_function(const struct fliskadee_lent *, uint64_t, uint32_t);
 typedef struct model_answer causes_function(const uint8_t *, size_t, uint32_t, uint32_t *, size_t);
+typedef struct model_answer save_function(const struct fliskadee_lent *, uint8_t *, size_t);
+typedef struct model_answer load_function(const uint8_t *, size_t, const struct fliskadee_lent *);
 
 struct side {
     run_function *run;
     find_flag_function *find_flag;
     causes_function *causes;
-    struct area image_area, ram_area, pad_area, words_area;
-    struct buffer image, ram, pad, words;
+    save_function *save;
+    load_function *load;
+    struct area image_area, ram_area, pad_area, words_area, file_area, space_area;
+    struct buffer image, ram, pad, words, file, space;
     uint64_t answer;
-    struct model_answer causes_answer;
+    struct model_answer causes_answer, saved_answer;
 };
 
 /* With the answer as the model's. */
@@ -118,6 +124,20 @@ static struct model_answer library_causes(const uint8_t *image, size_t image_len
                                           size_t words_length)
 {
     struct fliskadee_answer a = fliskadee_causes(image, image_length, command, words, words_length);
+
+    return (struct model_answer){a.code, a.number};
+}
+
+static struct model_answer library_save(const struct fliskadee_lent *l, uint8_t *space, size_t space_length)
+{
+    struct fliskadee_answer a = fliskadee_save_lent(l, space, space_length);
+
+    return (struct model_answer){a.code, a.number};
+}
+
+static struct model_answer library_load(const uint8_t *file, size_t file_length, const struct fliskadee_lent *l)
+{
+    struct fliskadee_answer a = fliskadee_load_lent(file, file_length, l);
 
     return (struct model_answer){a.code, a.number};
 }
@@ -132,8 +152,25 @@ static uint64_t model_find_flag_lent(const struct fliskadee_lent *l, uint64_t co
     return model_find_flag(l->image, l->image_length, l->ram, l->ram_length, l->pad, l->pad_length, count, mask);
 }
 
-static struct side library = {.run = fliskadee_run_lent, .find_flag = fliskadee_find_flag_lent, .causes = library_causes};
-static struct side model = {.run = model_run_lent, .find_flag = model_find_flag_lent, .causes = model_causes};
+static struct model_answer model_save_lent(const struct fliskadee_lent *l, uint8_t *space, size_t space_length)
+{
+    return model_save_file(l->image, l->image_length, l->ram, l->ram_length, l->pad, l->pad_length, space, space_length);
+}
+
+static struct model_answer model_load_lent(const uint8_t *file, size_t file_length, const struct fliskadee_lent *l)
+{
+    return model_load_file(file, file_length, l->image, l->image_length, l->ram, l->ram_length, l->pad, l->pad_length);
+}
+
+static struct side library = {.run = fliskadee_run_lent, .find_flag = fliskadee_find_flag_lent, .causes = library_causes,
+                              .save = library_save, .load = library_load};
+static struct side model = {.run = model_run_lent, .find_flag = model_find_flag_lent, .causes = model_causes,
+                            .save = model_save_lent, .load = model_load_lent};
+
+static struct fliskadee_lent lent_by(const struct side *s)
+{
+    return (struct fliskadee_lent){s->image.bytes, s->image.length, s->ram.bytes, s->ram.length, s->pad.bytes, s->pad.length};
+}
 
 /* A call on a machine: the run, or the search with a mask. */
 struct call {
@@ -145,7 +182,7 @@ struct call {
 /* Makes the call on the side as it stands. */
 static uint64_t make_call(struct side *s, const struct call *call)
 {
-    const struct fliskadee_lent lent = {s->image.bytes, s->image.length, s->ram.bytes, s->ram.length, s->pad.bytes, s->pad.length};
+    const struct fliskadee_lent lent = lent_by(s);
 
     return call->search ? s->find_flag(&lent, call->count, call->mask) : s->run(&lent, call->count);
 }
@@ -155,15 +192,27 @@ static uint64_t run_on(struct side *s, uint64_t count)
     return make_call(s, &(struct call){false, count, 0});
 }
 
+/* Places the side's image, RAM and pad. */
+static void lend(struct side *s, uint64_t placement, size_t image_length, size_t ram_length, size_t pad_length)
+{
+    s->image = place(&s->image_area, image_length, placement);
+    s->ram = place(&s->ram_area, ram_length, placement >> 8);
+    s->pad = place(&s->pad_area, pad_length, placement >> 48);
+}
+
+/* The machine of the case, with this RAM. */
+static void lend_case(struct side *s, const struct test_case *c, const uint8_t *ram, size_t ram_length)
+{
+    lend(s, c->placement, c->image_length, ram_length, c->pad_length);
+    memcpy(s->image.bytes, c->image, c->image_length);
+    memcpy(s->ram.bytes, ram, ram_length);
+    memcpy(s->pad.bytes, c->pad, c->pad_length);
+}
+
 /* Sets the side's buffers to the case, and makes the call. */
 static void call_side(struct side *s, const struct test_case *c, const struct call *call)
 {
-    s->image = place(&s->image_area, c->image_length, c->placement);
-    s->ram = place(&s->ram_area, c->ram_length, c->placement >> 8);
-    s->pad = place(&s->pad_area, c->pad_length, c->placement >> 48);
-    memcpy(s->image.bytes, c->image, c->image_length);
-    memcpy(s->ram.bytes, c->ram, c->ram_length);
-    memcpy(s->pad.bytes, c->pad, c->pad_length);
+    lend_case(s, c, c->ram, c->ram_length);
     s->answer = make_call(s, call);
 }
 
@@ -172,11 +221,16 @@ static bool same_bytes(const struct buffer *a, const struct buffer *b)
     return a->length == b->length && memcmp(a->bytes, b->bytes, a->length) == 0;
 }
 
+static bool same_machines(void)
+{
+    return same_bytes(&library.image, &model.image) && same_bytes(&library.ram, &model.ram) &&
+           same_bytes(&library.pad, &model.pad) && guards_intact(&library.image) && guards_intact(&library.ram) &&
+           guards_intact(&library.pad);
+}
+
 static bool agree(void)
 {
-    return library.answer == model.answer && same_bytes(&library.image, &model.image) &&
-           same_bytes(&library.ram, &model.ram) && same_bytes(&library.pad, &model.pad) && guards_intact(&library.image) &&
-           guards_intact(&library.ram) && guards_intact(&library.pad);
+    return library.answer == model.answer && same_machines();
 }
 
 /* Whether the two agree on the call, but with this count. */
@@ -377,6 +431,52 @@ static bool report_question(const struct test_case *c, const struct question *q,
     return false;
 }
 
+/* The fields of a file, as far as it has them. */
+static void print_fields(const uint8_t *file, size_t length)
+{
+    size_t at = 0, content;
+    unsigned shown = 0;
+
+    printf("  fields:");
+    for (; length - at >= 3 && shown < 80; at += 3 + content, shown++) {
+        content = file[at + 1] + (size_t)256 * file[at + 2];
+        printf(" %zu: %02x %02x %02x", at, file[at], file[at + 1], file[at + 2]);
+        if (content > length - at - 3) {
+            printf(" and %zu bytes\n", length - at - 3);
+            return;
+        }
+    }
+    printf(" %zu: %zu bytes\n", at, length - at);
+}
+
+static bool report_saved(const struct test_case *c, const struct saved_case *v, bool load, const char *what)
+{
+    printf("DIFFERENCE\nseed %llu, case %llu: ", (unsigned long long)seed, (unsigned long long)case_number);
+    if (load)
+        printf("load of %s of %zu bytes", v->kind, v->file_length);
+    else
+        printf("save to %zu bytes", v->space_length);
+    printf("; image of %zu bytes, RAM of %zu bytes, pad of %zu bytes\n  %s\n", load ? v->lent_image_length : c->image_length,
+           load ? v->lent_ram_length : v->ram_length, load ? v->lent_pad_length : c->pad_length, what);
+    printf("  library code %llu, number %llu; model code %llu, number %llu\n", (unsigned long long)library.saved_answer.code,
+           (unsigned long long)library.saved_answer.number, (unsigned long long)model.saved_answer.code,
+           (unsigned long long)model.saved_answer.number);
+    if (load)
+        print_fields(v->file, v->file_length);
+    return false;
+}
+
+/* Prints where the buffers of the two differ. */
+static bool report_buffers(const struct test_case *c, const struct saved_case *v, bool load, const char *what)
+{
+    report_saved(c, v, load, what);
+    print_bytes("image", &library.image, &model.image);
+    print_bytes("RAM", &library.ram, &model.ram);
+    print_bytes("pad", &library.pad, &model.pad);
+    print_bytes(load ? "file" : "space", &library.file, &model.file);
+    return false;
+}
+
 /* The library touched a page outside its buffers, or trapped. */
 static void on_signal(int number)
 {
@@ -521,7 +621,156 @@ static bool check_question(const struct test_case *c, const struct question *q)
     return true;
 }
 
-/* answers takes what the run and the search answered. */
+/* ---- Saved machines -------------------------------------------------------------- */
+
+/* What a lent byte holds before a save or a load. */
+static uint8_t unused_byte(void)
+{
+    return (uint8_t)(0x5B + 29 * case_number);
+}
+
+static bool all_unused(const uint8_t *bytes, size_t length)
+{
+    return length == 0 || (bytes[0] == unused_byte() && memcmp(bytes, bytes + 1, length - 1) == 0);
+}
+
+static void clear_buffer(struct buffer *b)
+{
+    memset(b->bytes, unused_byte(), b->length);
+}
+
+static void clear_machine(struct side *s)
+{
+    clear_buffer(&s->image);
+    clear_buffer(&s->ram);
+    clear_buffer(&s->pad);
+}
+
+/* Whether the library's machine is this one. */
+static bool library_has(const uint8_t *image, const uint8_t *ram, const uint8_t *pad)
+{
+    return memcmp(library.image.bytes, image, library.image.length) == 0 &&
+           memcmp(library.ram.bytes, ram, library.ram.length) == 0 && memcmp(library.pad.bytes, pad, library.pad.length) == 0;
+}
+
+static bool answered(struct model_answer a, uint64_t code, uint64_t number)
+{
+    return a.code == code && a.number == number;
+}
+
+static bool saved_answers_agree(void)
+{
+    return answered(library.saved_answer, model.saved_answer.code, model.saved_answer.number);
+}
+
+static bool saved_bytes_agree(void)
+{
+    return same_machines() && same_bytes(&library.file, &model.file) && guards_intact(&library.file);
+}
+
+static void save_side(struct side *s, const struct test_case *c, const struct saved_case *v)
+{
+    struct fliskadee_lent lent;
+
+    lend_case(s, c, v->ram, v->ram_length);
+    s->file = place(&s->file_area, v->space_length, c->placement >> 24);
+    clear_buffer(&s->file);
+    lent = lent_by(s);
+    s->saved_answer = s->save(&lent, s->file.bytes, s->file.length);
+}
+
+/* The two agree, the library wrote its bytes and nothing else, and a load gives the machine back. */
+static bool check_save(const struct test_case *c, const struct saved_case *v)
+{
+    struct fliskadee_lent lent;
+    size_t used;
+
+    save_side(&model, c, v);
+    save_side(&library, c, v);
+    if (!saved_answers_agree())
+        return report_saved(c, v, false, "the answers differ");
+    if (!saved_bytes_agree())
+        return report_buffers(c, v, false, "the bytes differ");
+    used = library.saved_answer.code == MODEL_DONE ? (size_t)library.saved_answer.number : 0;
+    if (!all_unused(library.file.bytes + used, library.file.length - used))
+        return report_saved(c, v, false, "a byte that is not the file's was changed");
+    if (!library_has(c->image, v->ram, c->pad))
+        return report_saved(c, v, false, "the machine was changed");
+    if (library.saved_answer.code != MODEL_DONE)
+        return true;
+    if (used != fliskadee_saved_bytes(v->ram_length) || fliskadee_saved_ram(used) != v->ram_length)
+        return report_saved(c, v, false, "the header has another number of bytes");
+    clear_machine(&library);
+    lent = lent_by(&library);
+    if (!answered(library.load(library.file.bytes, used, &lent), MODEL_DONE, 0) || !library_has(c->image, v->ram, c->pad))
+        return report_saved(c, v, false, "a load does not give the machine back");
+    return true;
+}
+
+static void load_side(struct side *s, const struct test_case *c, const struct saved_case *v)
+{
+    struct fliskadee_lent lent;
+
+    lend(s, c->placement, v->lent_image_length, v->lent_ram_length, v->lent_pad_length);
+    clear_machine(s);
+    s->file = place(&s->file_area, v->file_length, c->placement >> 24);
+    memcpy(s->file.bytes, v->file, v->file_length);
+    lent = lent_by(s);
+    s->saved_answer = s->load(s->file.bytes, s->file.length, &lent);
+}
+
+/* The file is the one that a save writes of what was loaded, and a run does not refuse it. */
+static bool saved_again(const struct test_case *c, const struct saved_case *v)
+{
+    const struct fliskadee_lent lent = lent_by(&library);
+
+    library.space = place(&library.space_area, v->file_length, c->placement >> 32);
+    clear_buffer(&library.space);
+    if (!answered(library.save(&lent, library.space.bytes, library.space.length), MODEL_DONE, v->file_length) ||
+        !same_bytes(&library.space, &library.file) || !guards_intact(&library.space))
+        return report_saved(c, v, true, "a save does not give the file back");
+    if (run_on(&library, 0) != 0)
+        return report_saved(c, v, true, "a run refuses what was loaded");
+    return true;
+}
+
+/* The two agree, and a refused load changed nothing. */
+static bool check_load(const struct test_case *c, const struct saved_case *v)
+{
+    load_side(&model, c, v);
+    load_side(&library, c, v);
+    if (!saved_answers_agree())
+        return report_saved(c, v, true, "the answers differ");
+    if (!saved_bytes_agree())
+        return report_buffers(c, v, true, "the bytes differ");
+    if (memcmp(library.file.bytes, v->file, v->file_length) != 0)
+        return report_saved(c, v, true, "the file was changed");
+    if (library.saved_answer.code == MODEL_DONE)
+        return saved_again(c, v);
+    if (!all_unused(library.image.bytes, library.image.length) || !all_unused(library.ram.bytes, library.ram.length) ||
+        !all_unused(library.pad.bytes, library.pad.length))
+        return report_saved(c, v, true, "a refused load changed something");
+    return true;
+}
+
+static bool check_saved(const struct test_case *c, struct case_answers *answers)
+{
+    struct saved_case v;
+    unsigned i;
+
+    for (i = 0; i < CASE_SAVED; i++) {
+        generate_saved(&v, c, i);
+        if (!check_save(c, &v))
+            return false;
+        answers->saves[i] = model.saved_answer;
+        if (!check_load(c, &v))
+            return false;
+        answers->loads[i] = model.saved_answer;
+    }
+    return true;
+}
+
+/* answers takes what was answered, windows and causes apart. */
 static bool check_case(const struct test_case *c, struct case_answers *answers)
 {
     const struct call search = {true, c->search_count, c->mask};
@@ -539,7 +788,93 @@ static bool check_case(const struct test_case *c, struct case_answers *answers)
     for (i = 0; i < CASE_QUESTIONS; i++)
         if (!check_question(c, &c->questions[i]))
             return false;
+    return check_saved(c, answers);
+}
+
+/* ---- Fixed files ------------------------------------------------------------------- */
+
+/* A whole file, and the machine that it is of. */
+struct fixed {
+    struct test_case c;
+    struct saved_case v;
+    uint8_t *file;
+};
+
+static void make_fixed(struct fixed *f, size_t ram_length)
+{
+    static uint8_t image[MODEL_IMAGE_BYTES], ram[2 * FLISKADEE_BLOCK_BYTES], pad[MODEL_PAD_BYTES], file[3 * FLISKADEE_BLOCK_BYTES];
+    size_t i;
+
+    fliskadee_fresh_image(image);
+    for (i = 0; i < ram_length; i++)
+        ram[i] = (uint8_t)(i * 7 + i / 251);
+    for (i = 0; i < sizeof pad; i++)
+        pad[i] = (uint8_t)(i * 11);
+    f->c = (struct test_case){.image = image, .image_length = sizeof image, .ram = ram, .ram_length = ram_length, .pad = pad,
+                              .pad_length = sizeof pad};
+    f->v = (struct saved_case){.ram = ram, .ram_length = ram_length, .file = file, .lent_image_length = sizeof image,
+                               .lent_ram_length = ram_length, .lent_pad_length = sizeof pad};
+    f->v.file_length = (size_t)model_save_file(image, sizeof image, ram, ram_length, pad, sizeof pad, file, sizeof file).number;
+    f->file = file;
+}
+
+/* Places in turn, so that a cut is tried against each kind of them. */
+static bool check_fixed(struct fixed *f, const char *kind)
+{
+    f->c.placement += 0x0101010101010101;
+    f->v.kind = kind;
+    return check_load(&f->c, &f->v);
+}
+
+static bool check_heads(struct fixed *f)
+{
+    size_t at, content, k;
+
+    for (at = 0; at < f->v.file_length; at += 3 + content) {
+        content = f->file[at + 1] + (size_t)256 * f->file[at + 2];
+        for (k = at; k < at + 3; k++) {
+            uint8_t old = f->file[k];
+            unsigned i;
+
+            for (i = 0; i < 256; i++) { /* the last one is as it was */
+                f->file[k] = (uint8_t)(old + i + 1);
+                if (!check_fixed(f, "a fixed file with another byte in a head"))
+                    return false;
+            }
+        }
+    }
     return true;
+}
+
+static bool check_cuts(struct fixed *f, size_t step)
+{
+    size_t whole = f->v.file_length;
+
+    for (f->v.file_length = 0; f->v.file_length < whole; f->v.file_length += step)
+        if (!check_fixed(f, "a fixed file that is cut"))
+            return false;
+    f->v.file_length = whole;
+    return true;
+}
+
+static bool check_spaces(struct fixed *f)
+{
+    for (f->v.space_length = 0; f->v.space_length < f->v.file_length + 64; f->v.space_length++)
+        if (!check_save(&f->c, &f->v))
+            return false;
+    return true;
+}
+
+/* Two files, of one short block and of a full one with a short one behind it. */
+static bool check_fixed_files(void)
+{
+    static struct fixed f;
+
+    make_fixed(&f, 4);
+    if (!check_cuts(&f, 1) || !check_heads(&f) || !check_spaces(&f))
+        return false;
+    make_fixed(&f, FLISKADEE_BLOCK_BYTES + 4);
+    return check_cuts(&f, 83) && check_heads(&f);
 }
 
 /* ---- The program -------------------------------------------------------------------- */
@@ -555,7 +890,7 @@ static bool parse(const char *text, uint64_t *value)
 
 struct options {
     uint64_t cases, first;
-    bool coverage, whole;
+    bool coverage, whole, one; /* one: a case alone */
 };
 
 /* False, with the reason told, where the arguments are wrong. */
@@ -574,7 +909,7 @@ static bool read_options(int argc, char **argv, struct options *o)
         else if (strcmp(argv[i], "--whole") == 0)
             o->whole = true;
         else if (strcmp(argv[i], "--case") == 0 && i + 1 < argc && parse(argv[i + 1], &o->first))
-            o->cases = 1, i++;
+            o->cases = 1, o->one = true, i++;
         else
             good = false;
     }
@@ -589,6 +924,8 @@ static void make_areas(struct side *s)
     s->ram_area = make_area(CASE_RAM_CAPACITY);
     s->pad_area = make_area(CASE_PAD_CAPACITY);
     s->words_area = make_area(4 * QUESTION_CAPACITY);
+    s->file_area = make_area(CASE_FILE_CAPACITY);
+    s->space_area = make_area(CASE_FILE_CAPACITY);
 }
 
 static void prepare(void)
@@ -633,6 +970,9 @@ int main(int argc, char **argv)
     }
     if (o.coverage)
         coverage_print();
+    case_number = o.cases;
+    if (!o.one && !check_fixed_files())
+        return 1;
     printf("%llu cases of seed %llu agree, %llu steps\n", (unsigned long long)ran, (unsigned long long)seed,
            (unsigned long long)steps);
     if (o.whole && coverage_missing()) {

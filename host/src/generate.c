@@ -1100,10 +1100,313 @@ size_t question_space(const struct question *q, size_t needed)
     return space < 0 ? 0 : (size_t)space;
 }
 
+/* ---- Saved machines -------------------------------------------------------------- */
+
+#define BLOCK 32768
+#define MOST_BLOCKS 65 /* one more than RAM can have */
+#define MOST_FIELDS (MOST_BLOCKS + 8)
+#define SMALL_FILE_RAM 4096 /* RAM up to this length is any case's */
+
+/* A file as its fields, before it is written. */
+struct field {
+    uint32_t tag, told; /* the tag and the length of the head */
+    const uint8_t *content;
+    size_t length; /* of the content */
+};
+
+struct fields {
+    struct field field[MOST_FIELDS];
+    size_t start[MOST_FIELDS]; /* where each was written */
+    unsigned count;
+};
+
+static uint8_t file_room[CASE_FILE_CAPACITY], long_ram[MOST_BLOCKS * BLOCK], filler[2 * BLOCK];
+static size_t file_room_used;
+
+static void random_bytes(struct random *r, uint8_t *bytes, size_t length)
+{
+    size_t i;
+
+    for (i = 0; i < length; i += 4)
+        put_word(bytes + i, random_word(r));
+}
+
+/* Around the ends of blocks; seldom the greatest. */
+static size_t long_ram_length(struct random *r)
+{
+    static const size_t lengths[] = {BLOCK - 4, BLOCK, BLOCK + 4, BLOCK + 4, 2 * BLOCK - 4, 2 * BLOCK, 2 * BLOCK + 4, 3 * BLOCK};
+    static const size_t great[] = {MODEL_RAM_MAXIMUM, MODEL_RAM_MAXIMUM, MODEL_RAM_MAXIMUM - 4, 63 * BLOCK, 63 * BLOCK + 4};
+
+    return chance(r, 3) ? PICK(r, great) : chance(r, 80) ? PICK(r, lengths) : BLOCK + 4 * below(r, BLOCK / 2);
+}
+
+static size_t saved_bytes(size_t ram_length)
+{
+    return 1468 + ram_length + 3 * ((ram_length + BLOCK - 1) / BLOCK);
+}
+
+/* Just enough, more, a byte or some too few, or none. */
+static size_t random_space(struct random *r, size_t needed)
+{
+    size_t space = needed;
+
+    switch (below(r, 10)) {
+    case 0: case 1: case 2: case 3: break;
+    case 4: case 5: space += 1 + below(r, 200); break;
+    case 6: space -= 1; break;
+    case 7: space -= 1 + below(r, 40); break;
+    case 8: space = below(r, (uint32_t)needed); break;
+    default: space = 0; break;
+    }
+    return space < CASE_FILE_CAPACITY ? space : CASE_FILE_CAPACITY;
+}
+
+static void add_field(struct fields *f, uint32_t tag, const uint8_t *content, size_t length)
+{
+    f->field[f->count++] = (struct field){tag, (uint32_t)length, content, length};
+}
+
+static void add_blocks(struct fields *f, const uint8_t *ram, size_t ram_length)
+{
+    size_t place;
+
+    for (place = 0; place < ram_length; place += BLOCK)
+        add_field(f, 3, ram + place, ram_length - place < BLOCK ? ram_length - place : BLOCK);
+}
+
+/* Blocks of which one may be empty, too long, or stand behind a short one. Answers their total. */
+static size_t add_odd_blocks(struct random *r, struct fields *f)
+{
+    static const size_t lengths[] = {BLOCK, BLOCK, 0, BLOCK - 1, BLOCK + 1, BLOCK + 0x80, 0x8100, 0xFF00, 0xFFFF};
+    uint32_t blocks = below(r, 4), i;
+    bool small = chance(r, 60);
+    size_t total = 0;
+
+    for (i = 0; i < blocks; i++) {
+        size_t length = small || chance(r, 30) ? (chance(r, 20) ? 0 : 1 + below(r, 40)) : PICK(r, lengths);
+
+        add_field(f, 3, filler + below(r, (uint32_t)(sizeof filler - length)), length);
+        total += length;
+    }
+    return total;
+}
+
+/* One field is missing, is there twice, changes places with the next, or has another tag or length with the content to it. */
+static void spoil_fields(struct random *r, struct fields *f)
+{
+    uint32_t at = below(r, f->count), i;
+    struct field moved = f->field[at];
+
+    switch (below(r, 4)) {
+    case 0:
+        f->count--;
+        for (i = at; i < f->count; i++)
+            f->field[i] = f->field[i + 1];
+        break;
+    case 1:
+        for (i = f->count++; i > at; i--)
+            f->field[i] = f->field[i - 1];
+        break;
+    case 2:
+        if (at + 1 < f->count) {
+            f->field[at] = f->field[at + 1];
+            f->field[at + 1] = moved;
+        }
+        break;
+    default:
+        f->field[at].tag = chance(r, 50) ? moved.tag : below(r, 6);
+        f->field[at].content = filler;
+        f->field[at].length = chance(r, 50) ? moved.length ^ 1u << below(r, 11) : below(r, 2000);
+        f->field[at].told = (uint32_t)f->field[at].length;
+        break;
+    }
+}
+
+static void write_byte(uint32_t byte)
+{
+    file_room[file_room_used++] = (uint8_t)byte;
+}
+
+static void write_fields(struct fields *f)
+{
+    unsigned i;
+
+    file_room_used = 0;
+    for (i = 0; i < f->count; i++) {
+        const struct field *field = &f->field[i];
+
+        f->start[i] = file_room_used;
+        write_byte(field->tag);
+        write_byte(field->told);
+        write_byte(field->told >> 8);
+        if (field->length > 0)
+            memcpy(file_room + file_room_used, field->content, field->length);
+        file_room_used += field->length;
+    }
+}
+
+/* A byte of a head: any, or near the one that is there. */
+static void change_head(struct random *r, const struct fields *f)
+{
+    static const uint8_t values[] = {0, 1, 2, 3, 4, 5, 0x7F, 0x80, 0x81, 0xFF};
+    uint8_t *byte = file_room + f->start[below(r, f->count)] + below(r, 3);
+
+    switch (below(r, 4)) {
+    case 0: *byte ^= (uint8_t)(1u << below(r, 8)); break;
+    case 1: *byte = (uint8_t)(*byte + (chance(r, 50) ? 1 : 0xFF)); break;
+    case 2: *byte = PICK(r, values); break;
+    default: *byte = (uint8_t)random_word(r); break;
+    }
+}
+
+/* In a head or at its ends more often than anywhere. */
+static void cut_file(struct random *r, const struct fields *f)
+{
+    size_t place = f->start[below(r, f->count)] + below(r, 4);
+
+    if (chance(r, 30))
+        place = below(r, (uint32_t)file_room_used);
+    if (place < file_room_used)
+        file_room_used = place;
+}
+
+static void lengthen_file(struct random *r)
+{
+    uint32_t bytes = 1 + below(r, 4), zeros = below(r, 2), i;
+
+    for (i = 0; i < bytes; i++)
+        write_byte(zeros ? 0 : random_word(r));
+}
+
+/* Bits anywhere, mostly in contents. */
+static void damage_file(struct random *r)
+{
+    uint32_t bits = 1 + below(r, 3), i;
+
+    for (i = 0; i < bits && file_room_used > 0; i++)
+        file_room[below(r, (uint32_t)file_room_used)] ^= (uint8_t)(1u << below(r, 8));
+}
+
+/* Of long RAM fewer whole files, since it is seldom. */
+static const char *random_file(struct random *r, struct fields *f, bool is_long)
+{
+    uint32_t choice = below(r, is_long ? 85 : 100);
+
+    if (choice < 12) {
+        spoil_fields(r, f);
+        write_fields(f);
+        return "fields that are odd";
+    }
+    write_fields(f);
+    if (choice < 34) {
+        change_head(r, f);
+        return "a head with another byte";
+    }
+    if (choice < 48) {
+        cut_file(r, f);
+        return "a cut file";
+    }
+    if (choice < 54) {
+        lengthen_file(r);
+        return "a file with bytes behind it";
+    }
+    if (choice < 60) {
+        damage_file(r);
+        return "a damaged file";
+    }
+    if (choice < 62) {
+        change_head(r, f);
+        cut_file(r, f);
+        return "a cut file with another byte in a head";
+    }
+    if (choice < 64) {
+        file_room_used = below(r, 500);
+        random_bytes(r, file_room, file_room_used);
+        if (chance(r, 50))
+            file_room[0] = 1;
+        return "random bytes";
+    }
+    return "a whole file";
+}
+
+/* What is lent to the load: mostly what the file needs. */
+static void random_lent(struct random *r, struct saved_case *s, size_t total)
+{
+    static const size_t lengths[] = {0, 1, 4, 428, 431, 433, 436, 448, 452, 863, 864};
+    size_t whole = (total + 3) / 4 * 4;
+
+    s->lent_image_length = chance(r, 5) ? PICK(r, lengths) : 432;
+    s->lent_pad_length = chance(r, 5) ? bad_pad_length(r) : MODEL_PAD_BYTES;
+    s->lent_ram_length = total;
+    if (total == 0 || (total % 4 != 0 && chance(r, 70)))
+        s->lent_ram_length = whole <= 4 || chance(r, 50) ? whole + 4 * (total == 0) : whole - 4;
+    else if (chance(r, 4))
+        s->lent_ram_length = bad_ram_length(r);
+    else if (chance(r, 10))
+        s->lent_ram_length = chance(r, 40) ? whole + 4 : whole > 4 && chance(r, 50) ? whole - 4 : 4 * (1 + below(r, 64));
+    else if (total > MODEL_RAM_MAXIMUM && chance(r, 80))
+        s->lent_ram_length = chance(r, 50) ? MODEL_RAM_MAXIMUM : 4;
+}
+
+/* The machine of the file: the case's image, well formed or not, the RAM to be saved or as much of it as there is, and the pad. */
+static size_t make_file(struct random *r, struct saved_case *s, const struct test_case *c)
+{
+    static uint8_t image[MODEL_IMAGE_BYTES];
+    struct fields f = {.count = 0};
+    size_t total = s->ram_length;
+    uint32_t word[108], i;
+
+    if (total == 0 || (s->ram == c->ram && total > MODEL_RAM_MAXIMUM))
+        total = 4;
+    if (total <= SMALL_FILE_RAM && chance(r, 6))
+        total = 1 + below(r, (uint32_t)total);
+    for (i = 0; i < 108; i++)
+        word[i] = get_word(c->image + 4 * i);
+    if (chance(r, 12))
+        spoil(r, word);
+    for (i = 0; i < 108; i++)
+        put_word(image + 4 * i, word[i]);
+    add_field(&f, 1, image, 176);
+    add_field(&f, 2, image + 176, 256);
+    if (total <= SMALL_FILE_RAM && chance(r, 10))
+        total = add_odd_blocks(r, &f);
+    else if (total > MODEL_RAM_MAXIMUM - BLOCK && s->ram == long_ram && chance(r, 60))
+        add_blocks(&f, long_ram, total = MOST_BLOCKS * BLOCK - (chance(r, 50) ? 0 : BLOCK - 4)); /* more than can be lent */
+    else
+        add_blocks(&f, s->ram, total);
+    add_field(&f, 4, c->pad, MODEL_PAD_BYTES);
+    add_field(&f, 0, NULL, 0);
+    s->kind = random_file(r, &f, s->ram == long_ram);
+    s->file = file_room;
+    s->file_length = file_room_used;
+    return total;
+}
+
+void generate_saved(struct saved_case *s, const struct test_case *c, unsigned number)
+{
+    struct random random, *r = &random;
+
+    if (filler[0] == 0) { /* the same for every case */
+        seed_random(r, 0, 0);
+        random_bytes(r, filler, sizeof filler);
+        filler[0] = 1;
+    }
+    seed_random(r, c->saved_seeds[number], number);
+    s->ram = c->ram;
+    s->ram_length = c->ram_length;
+    if (chance(r, 3)) {
+        s->ram = long_ram;
+        s->ram_length = long_ram_length(r);
+        random_bytes(r, long_ram, s->ram_length > MODEL_RAM_MAXIMUM - BLOCK ? sizeof long_ram : s->ram_length);
+    }
+    s->space_length = random_space(r, saved_bytes(s->ram_length));
+    random_lent(r, s, make_file(r, s, c));
+}
+
 void generate_case(struct test_case *c, uint64_t seed, uint64_t number)
 {
     struct random random, *r = &random;
-    uint32_t choice;
+    uint32_t choice, i;
 
     seed_random(r, seed, number);
     c->expected = EXPECT_RUN;
@@ -1124,4 +1427,6 @@ void generate_case(struct test_case *c, uint64_t seed, uint64_t number)
     c->search_count = random_search_count(r, c->count);
     random_windows(r, c);
     random_questions(r, c);
+    for (i = 0; i < CASE_SAVED; i++)
+        c->saved_seeds[i] = next(r);
 }

@@ -39,6 +39,21 @@ struct question {
 #define CASE_QUESTIONS 3
 #define QUESTION_CAPACITY 1000 /* words */
 
+/* A machine to save, which is the case's but for its RAM, and a file to load. */
+struct saved_case {
+    const uint8_t *ram; /* the case's, or a longer one */
+    size_t ram_length;
+    size_t space_length; /* at most CASE_FILE_CAPACITY */
+
+    const char *kind; /* of the file */
+    const uint8_t *file;
+    size_t file_length; /* at most CASE_FILE_CAPACITY */
+    size_t lent_image_length, lent_ram_length, lent_pad_length; /* to the load */
+};
+
+#define CASE_SAVED 2
+#define CASE_FILE_CAPACITY 2200000
+
 struct test_case {
     const char *kind;
     uint8_t *image; /* room for CASE_IMAGE_CAPACITY bytes */
@@ -54,9 +69,13 @@ struct test_case {
     uint64_t placement; /* random bits for where the buffers lie and where a run is cut in two */
     struct window windows[CASE_WINDOWS];
     struct question questions[CASE_QUESTIONS];
+    uint64_t saved_seeds[CASE_SAVED];
 };
 
 void generate_case(struct test_case *c, uint64_t seed, uint64_t number);
+
+/* The saved case of this number, from the case as it was generated. RAM and file may stand in room that the next call uses again. */
+void generate_saved(struct saved_case *s, const struct test_case *c, unsigned number);
 
 /* The words that the question lends where its rows need so many, at most QUESTION_CAPACITY. */
 size_t question_space(const struct question *q, size_t needed);
