@@ -1,6 +1,7 @@
 /*
- * Benchmark: the library beside the model, in one process, in rounds that
- * alternate between them. Figures are medians over the rounds.
+ * Benchmark: the library beside the model, or beside a copy of RAM where a
+ * machine is saved or loaded, in one process, in rounds that alternate between
+ * them. Figures are medians over the rounds.
  *
  *   bench [ROUNDS]
  */
@@ -10,6 +11,7 @@
 #include "encode.h"
 #include "fliskadee.h"
 #include "model.h"
+#include "saved.h"
 
 #include <stdio.h>
 #include <stdlib.h>
@@ -313,6 +315,96 @@ static bool measure_causes(const char *name, const uint8_t *image, uint32_t comm
     return true;
 }
 
+/* ---- Saved machines -------------------------------------------------------------- */
+
+/* A machine to save, its file, and a machine to load into. */
+static struct {
+    uint8_t image[MODEL_IMAGE_BYTES], ram[MODEL_RAM_MAXIMUM], pad[MODEL_PAD_BYTES];
+    uint8_t file[FLISKADEE_MOST_SAVED_BYTES], model_file[FLISKADEE_MOST_SAVED_BYTES];
+    uint8_t loaded_image[MODEL_IMAGE_BYTES], loaded_ram[MODEL_RAM_MAXIMUM], loaded_pad[MODEL_PAD_BYTES];
+    size_t ram_length, file_length;
+} saved;
+
+/* Each does its work once; false where a call is refused. */
+typedef bool saved_function(void);
+
+static bool save_once(void)
+{
+    return fliskadee_save(saved.image, sizeof saved.image, saved.ram, saved.ram_length, saved.pad, sizeof saved.pad, saved.file,
+                          saved.file_length).code == FLISKADEE_DONE;
+}
+
+static bool load_once(void)
+{
+    return fliskadee_load(saved.file, saved.file_length, saved.loaded_image, sizeof saved.loaded_image, saved.loaded_ram,
+                          saved.ram_length, saved.loaded_pad, sizeof saved.loaded_pad).code == FLISKADEE_DONE;
+}
+
+/* Called through a variable, so that no copy is left out. */
+static void *(*volatile copy)(void *, const void *, size_t) = memcpy;
+
+static bool copy_to_file(void)
+{
+    copy(saved.file, saved.ram, saved.ram_length);
+    return true;
+}
+
+static bool copy_from_file(void)
+{
+    copy(saved.loaded_ram, saved.file, saved.ram_length);
+    return true;
+}
+
+static double time_saved(saved_function *once, unsigned calls)
+{
+    double start = now();
+    unsigned i;
+
+    for (i = 0; i < calls; i++)
+        if (!once()) {
+            fprintf(stderr, "bench: a save or a load was refused\n");
+            exit(1);
+        }
+    return (now() - start) / calls;
+}
+
+static void print_saved(const char *name, double *library_times, double *copy_times, unsigned rounds)
+{
+    double library_median = median(library_times, rounds), copy_median = median(copy_times, rounds);
+
+    printf("%-34s %10.2f %10.2f GB/s %12.2f %9.2f us %8.2f\n", name, (double)saved.ram_length / library_median * 1e-9,
+           (double)saved.ram_length / copy_median * 1e-9, library_median * 1e6, copy_median * 1e6, library_median / copy_median);
+}
+
+/* A copy goes where the save or the load beside it goes. Answers whether the file is the model's and gives the machine back. */
+static bool measure_saved(const char *save_name, const char *load_name, size_t ram_length, unsigned calls, unsigned rounds)
+{
+    double saves[MAXIMUM_ROUNDS], loads[MAXIMUM_ROUNDS], copies_to[MAXIMUM_ROUNDS], copies_from[MAXIMUM_ROUNDS];
+    unsigned i;
+
+    saved.ram_length = ram_length;
+    strained(saved.image);
+    for (i = 0; i < ram_length; i++)
+        saved.ram[i] = (uint8_t)(i * 7 + i / 251);
+    memset(saved.loaded_ram, 0, ram_length);
+    saved.file_length = (size_t)model_save_file(saved.image, sizeof saved.image, saved.ram, ram_length, saved.pad,
+                                                sizeof saved.pad, saved.model_file, sizeof saved.model_file).number;
+    for (i = 0; i < rounds; i++) {
+        copies_to[i] = time_saved(copy_to_file, calls);
+        saves[i] = time_saved(save_once, calls);
+        copies_from[i] = time_saved(copy_from_file, calls);
+        loads[i] = time_saved(load_once, calls);
+    }
+    print_saved(save_name, saves, copies_to, rounds);
+    print_saved(load_name, loads, copies_from, rounds);
+    if (memcmp(saved.file, saved.model_file, saved.file_length) == 0 &&
+        memcmp(saved.loaded_image, saved.image, sizeof saved.image) == 0 &&
+        memcmp(saved.loaded_ram, saved.ram, ram_length) == 0 && memcmp(saved.loaded_pad, saved.pad, sizeof saved.pad) == 0)
+        return true;
+    printf("%s: library and model have different files\n", save_name);
+    return false;
+}
+
 int main(int argc, char **argv)
 {
     static struct workload w;
@@ -361,5 +453,9 @@ int main(int argc, char **argv)
     same &= measure_causes("causes of RTPS, many bits", image, encode_command(0x01, 1, 0), rounds);
     same &= measure_causes("causes of NCDT, many bits", image, encode_command(0x16, 1, 0), rounds);
     printf("ratio: the library's speed over the model's\n");
+    printf("%-27s %17s %10s %17s %9s %11s\n", "saved machines", "library", "copy", "library", "copy", "time");
+    same &= measure_saved("a save of 2 MiB of RAM", "a load of 2 MiB of RAM", MODEL_RAM_MAXIMUM, 20, rounds);
+    same &= measure_saved("a save of 64 KiB of RAM", "a load of 64 KiB of RAM", 65536, 1000, rounds);
+    printf("time: the library's over that of a copy of RAM\n");
     return same ? 0 : 1;
 }
