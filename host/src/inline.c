@@ -170,12 +170,132 @@ static void try_window(void)
     check(fliskadee_window(ram, sizeof ram, pad, sizeof pad, 0xBF800000, 8) == 0, "an empty part");
 }
 
+/* Block by block, as the header lists the fields. */
+static size_t plain_bytes(size_t ram_length)
+{
+    size_t bytes = 3 + 176 + 3 + 256 + 3 + FLISKADEE_PAD_BYTES + 3;
+
+    while (ram_length > 0) {
+        size_t block = ram_length < FLISKADEE_BLOCK_BYTES ? ram_length : FLISKADEE_BLOCK_BYTES;
+
+        bytes += 3 + block;
+        ram_length -= block;
+    }
+    return bytes;
+}
+
+enum { MOST_LENGTH = 200000 };
+
+static void try_lengths(void)
+{
+    static size_t expected[MOST_LENGTH + 1]; /* RAM by the bytes of its file, 0 where there is none */
+    size_t length, bytes, other = 0;
+
+    for (length = 0; length <= MOST_LENGTH; length++) {
+        bytes = plain_bytes(length);
+        other += fliskadee_saved_bytes(length) != bytes;
+        if (bytes <= MOST_LENGTH)
+            expected[bytes] = length;
+    }
+    check(other == 0, "the bytes of a file");
+    other = 0;
+    for (length = 0; length <= MOST_LENGTH; length++)
+        other += fliskadee_saved_ram(length) != expected[length];
+    check(other == 0, "the RAM of a file, back");
+    other = 0;
+    for (length = 4; length <= FLISKADEE_MOST_RAM; length += 4)
+        other += fliskadee_saved_ram(fliskadee_saved_bytes(length)) != length;
+    check(other == 0, "every RAM that can be saved");
+
+    check(fliskadee_saved_bytes(4) == 1475, "4 bytes of RAM");
+    check(fliskadee_saved_bytes(FLISKADEE_MOST_RAM) == FLISKADEE_MOST_SAVED_BYTES, "the greatest RAM");
+    check(fliskadee_saved_ram(FLISKADEE_MOST_SAVED_BYTES) == FLISKADEE_MOST_RAM, "the greatest RAM, back");
+    check(fliskadee_saved_ram(0) == 0 && fliskadee_saved_ram(1468) == 0 && fliskadee_saved_ram(1471) == 0, "too short for RAM");
+    check(fliskadee_saved_ram(1472) == 1, "a byte of RAM");
+    check(fliskadee_saved_ram(34239) == 32768, "a full block");
+    check(fliskadee_saved_ram(34240) == 0 && fliskadee_saved_ram(34242) == 0, "a full block and an empty one");
+    check(fliskadee_saved_ram(34243) == 32769, "a full block and a byte");
+    check(fliskadee_saved_ram(SIZE_MAX) == 18445055378453954387u, "the greatest length");
+    check(fliskadee_saved_bytes(18445055378453954387u) == SIZE_MAX, "the greatest length, back");
+    check(fliskadee_saved_ram(SIZE_MAX - 32596) == 0, "none of a very great length");
+}
+
+static uint8_t file[70000];
+static uint8_t loaded_image[FLISKADEE_IMAGE_BYTES];
+static uint8_t loaded_ram[sizeof ram];
+static uint8_t loaded_pad[FLISKADEE_PAD_BYTES];
+static const struct fliskadee_lent loaded = {loaded_image, sizeof loaded_image, loaded_ram, sizeof loaded_ram, loaded_pad,
+                                             sizeof loaded_pad};
+
+static int answered(struct fliskadee_answer answer, uint64_t code, uint64_t number)
+{
+    return answer.code == code && answer.number == number;
+}
+
+/* A machine of two full blocks, saved and loaded. */
+static void try_save_and_load(void)
+{
+    const size_t bytes = fliskadee_saved_bytes(sizeof ram);
+
+    put_machine(0x7FFF);
+    ram[40000] = 0x5A;
+    memset(file, 0xA5, sizeof file);
+    check(answered(fliskadee_save_lent(&lent, file, bytes - 1), FLISKADEE_REFUSED_SPACE, 0) && file[0] == 0xA5, "a short space");
+    check(answered(fliskadee_save_lent(&lent, file, sizeof file), FLISKADEE_DONE, bytes), "a save");
+    check(file[bytes] == 0xA5 && file[sizeof file - 1] == 0xA5, "the rest of the space is as before");
+    check(file[0] == 1 && file[3 + 4 * FLISKADEE_WORD_SR + 3] == 0x40, "the image in the file");
+    check(memcmp(file + 441, ram, 32768) == 0 && memcmp(file + 441 + 32771, ram + 32768, 32768) == 0, "the RAM in the file");
+    check(memcmp(file + bytes - 3 - sizeof pad, pad, sizeof pad) == 0, "the pad in the file");
+
+    check(answered(fliskadee_load_lent(file, bytes + 1, &loaded), FLISKADEE_REFUSED_FILE, bytes), "a byte behind the end");
+    check(answered(fliskadee_load_lent(file, 1000, &loaded), FLISKADEE_REFUSED_FILE, 1000), "a file that ends too early");
+    check(answered(fliskadee_load_lent(file, bytes, &loaded), FLISKADEE_DONE, 0), "a load");
+    check(memcmp(loaded_image, image, sizeof image) == 0, "the same image");
+    check(memcmp(loaded_ram, ram, sizeof ram) == 0, "the same RAM");
+    check(memcmp(loaded_pad, pad, sizeof pad) == 0, "the same pad");
+    check(fliskadee_run_lent(&loaded, 6) == fliskadee_run_lent(&lent, 6), "it runs as the other");
+    check(memcmp(loaded_image, image, sizeof image) == 0 && memcmp(loaded_pad, pad, sizeof pad) == 0, "and comes to the same");
+}
+
+/* Each length goes to its own buffer, and the codes have their order. */
+static void try_saved_refusals(void)
+{
+    static const struct {
+        size_t image_length, ram_length, pad_length;
+        unsigned code;
+    } cases[] = {
+        {431, 6, 1020, FLISKADEE_REFUSED_IMAGE_LENGTH},
+        {432, 6, 1020, FLISKADEE_REFUSED_RAM_LENGTH},
+        {432, sizeof ram, 1020, FLISKADEE_REFUSED_PAD_LENGTH},
+    };
+    const struct fliskadee_lent less = {image, sizeof image, ram, sizeof ram - 4, pad, sizeof pad};
+    const size_t bytes = fliskadee_saved_bytes(sizeof ram);
+    size_t i;
+
+    put_machine(0x7FFF);
+    fliskadee_save_lent(&lent, file, sizeof file);
+    for (i = 0; i < sizeof cases / sizeof cases[0]; i++) {
+        const struct fliskadee_lent other = {image, cases[i].image_length, ram, cases[i].ram_length, pad, cases[i].pad_length};
+
+        check(answered(fliskadee_save_lent(&other, file, 0), cases[i].code, 0), "a save with a wrong length");
+        check(answered(fliskadee_load_lent(file, 0, &other), cases[i].code, 0), "a load with a wrong length");
+    }
+    check(answered(fliskadee_load_lent(file, bytes, &less), FLISKADEE_REFUSED_SPACE, 0), "another RAM");
+    file[3] = 1; /* register 0 */
+    check(answered(fliskadee_load_lent(file, bytes, &less), FLISKADEE_REFUSED_IMAGE_FORM, 0), "the file's image, before another RAM");
+    fliskadee_set_word(image, 0, 1);
+    check(answered(fliskadee_save_lent(&lent, file, 0), FLISKADEE_REFUSED_IMAGE_FORM, 0), "an image, before a short space");
+}
+
 int main(void)
 {
     try_run();
     try_find_flag();
     try_refusals();
     try_window();
+    try_lengths();
+    try_save_and_load();
+    try_saved_refusals();
     printf("%u passed, %u failed\n", passed, failed);
     return failed == 0 ? 0 : 1;
 }
