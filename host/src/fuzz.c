@@ -453,7 +453,7 @@ static bool report_saved(const struct test_case *c, const struct saved_case *v, 
 {
     printf("DIFFERENCE\nseed %llu, case %llu: ", (unsigned long long)seed, (unsigned long long)case_number);
     if (load)
-        printf("load of %s of %zu bytes", v->kind, v->file_length);
+        printf("load of %zu bytes, %s", v->file_length, v->kind);
     else
         printf("save to %zu bytes", v->space_length);
     printf("; image of %zu bytes, RAM of %zu bytes, pad of %zu bytes\n  %s\n", load ? v->lent_image_length : c->image_length,
