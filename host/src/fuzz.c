@@ -5,10 +5,10 @@
  *
  *   fuzz N SEED [--coverage] [--whole] [--case K]
  *
- * Runs cases 0..N-1 of the seed, and then every cut and every other head of two
- * fixed files; or case K alone. Status 0 when all agree,
- * 1 at the first difference or where --whole is given and the cases did not
- * reach all that can be reached, 2 on bad usage.
+ * Runs cases 0..N-1 of the seed, and then loads two fixed files, cut and with
+ * every other byte in a head; or runs case K alone. Status 0 when all agree, 1
+ * at the first difference or where --whole is given and the cases did not reach
+ * all that can be reached, 2 on bad usage.
  */
 #define _DEFAULT_SOURCE
 
@@ -646,11 +646,13 @@ static void clear_machine(struct side *s)
     clear_buffer(&s->pad);
 }
 
-/* Whether the library's machine is this one. */
+/* Whether the library's machine is this one, with nothing written around it. */
 static bool library_has(const uint8_t *image, const uint8_t *ram, const uint8_t *pad)
 {
     return memcmp(library.image.bytes, image, library.image.length) == 0 &&
-           memcmp(library.ram.bytes, ram, library.ram.length) == 0 && memcmp(library.pad.bytes, pad, library.pad.length) == 0;
+           memcmp(library.ram.bytes, ram, library.ram.length) == 0 &&
+           memcmp(library.pad.bytes, pad, library.pad.length) == 0 && guards_intact(&library.image) &&
+           guards_intact(&library.ram) && guards_intact(&library.pad);
 }
 
 static bool answered(struct model_answer a, uint64_t code, uint64_t number)

@@ -74,7 +74,7 @@ struct test_case {
 
 void generate_case(struct test_case *c, uint64_t seed, uint64_t number);
 
-/* The saved case of this number, from the case as it was generated. RAM and file may stand in room that the next call uses again. */
+/* The saved case of this number, from the case as it was generated. RAM and file may stand in room that the next call uses. */
 void generate_saved(struct saved_case *s, const struct test_case *c, unsigned number);
 
 /* The words that the question lends where its rows need so many, at most QUESTION_CAPACITY. */

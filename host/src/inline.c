@@ -282,7 +282,7 @@ static void try_saved_refusals(void)
     }
     check(answered(fliskadee_load_lent(file, bytes, &less), FLISKADEE_REFUSED_SPACE, 0), "another RAM");
     file[3] = 1; /* register 0 */
-    check(answered(fliskadee_load_lent(file, bytes, &less), FLISKADEE_REFUSED_IMAGE_FORM, 0), "the file's image, before another RAM");
+    check(answered(fliskadee_load_lent(file, bytes, &less), FLISKADEE_REFUSED_IMAGE_FORM, 0), "the file's image comes first");
     fliskadee_set_word(image, 0, 1);
     check(answered(fliskadee_save_lent(&lent, file, 0), FLISKADEE_REFUSED_IMAGE_FORM, 0), "an image, before a short space");
 }

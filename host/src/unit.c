@@ -2821,7 +2821,7 @@ static bool head_stands(size_t at, unsigned tag, size_t length, size_t *shared)
     return true;
 }
 
-/* How much of the file is the beginning of the well-formed file with so much RAM and the same contents; all of that one if *whole. */
+/* How much of the file is the beginning of the well-formed one with so much RAM and the same contents; all of that if *whole. */
 static size_t shared_with(size_t ram_bytes, bool *whole)
 {
     size_t at = FIRST_BLOCK, left, shared;
