@@ -32,6 +32,20 @@ struct fliskadee_answer fliskadee_causes(const uint8_t *image, size_t image_leng
     end();
 }
 
+struct fliskadee_answer fliskadee_save(const uint8_t *image, size_t image_length, const uint8_t *ram, size_t ram_length,
+                                       const uint8_t *pad, size_t pad_length, uint8_t *space, size_t space_length)
+{
+    (void)image, (void)image_length, (void)ram, (void)ram_length, (void)pad, (void)pad_length, (void)space, (void)space_length;
+    end();
+}
+
+struct fliskadee_answer fliskadee_load(const uint8_t *file, size_t file_length, uint8_t *image, size_t image_length, uint8_t *ram,
+                                       size_t ram_length, uint8_t *pad, size_t pad_length)
+{
+    (void)file, (void)file_length, (void)image, (void)image_length, (void)ram, (void)ram_length, (void)pad, (void)pad_length;
+    end();
+}
+
 uint64_t fliskadee_window(const uint8_t *ram, size_t ram_length, const uint8_t *pad, size_t pad_length, uint32_t address,
                           uint64_t length)
 {

@@ -28,6 +28,11 @@ bool is_standard(const char *path)
     return strcmp(path, "-") == 0;
 }
 
+const char *input_name(const char *path)
+{
+    return is_standard(path) ? "standard input" : path;
+}
+
 /* ---- Reading ---- */
 
 /* Reads to the end, but at most one byte more than `most`, which shows that there are more. */

@@ -21,6 +21,9 @@ void complain(const char *format, ...) __attribute__((format(printf, 1, 2)));
 /* Whether a path is "-". */
 bool is_standard(const char *path);
 
+/* A path that is read, as it is told. */
+const char *input_name(const char *path);
+
 /* Reads a regular file of at most `most` bytes. Standard input may be anything, but is read only once in a program.
    On failure it complains and answers false. */
 bool read_file(const char *path, size_t most, struct bytes *bytes);

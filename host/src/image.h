@@ -10,6 +10,12 @@
 
 enum { RAM_LEAST = 4 }; /* the shortest RAM that the library runs */
 
+/* Whether the library runs a RAM of so many bytes. */
+static inline bool is_ram_length(size_t length)
+{
+    return length % 4 == 0 && length >= RAM_LEAST && length <= FLISKADEE_MOST_RAM;
+}
+
 enum cop2_kind {
     KIND_SIGNED, /* 32 bits */
     KIND_FIXED,        /* 32 bits, 16 of them fraction */

@@ -43,6 +43,7 @@ void free_machine(struct machine *machine)
     free(machine->image.data);
     free(machine->ram.data);
     free(machine->pad.data);
+    memset(machine, 0, sizeof *machine);
 }
 
 static bool copy_bytes(struct bytes *to, const struct bytes *from)
@@ -57,7 +58,7 @@ static bool copy_bytes(struct bytes *to, const struct bytes *from)
     return true;
 }
 
-static bool read_pad(const char *path, struct bytes *pad)
+bool read_pad(const char *path, struct bytes *pad)
 {
     static uint8_t zeros[FLISKADEE_PAD_BYTES];
     const struct bytes none = {zeros, sizeof zeros};
@@ -70,6 +71,27 @@ bool read_machine(struct machine *machine, const char *image, const char *ram, c
     if (read_file(image, FILE_MOST, &machine->image) && read_file(ram, FILE_MOST, &machine->ram)
         && read_pad(pad, &machine->pad))
         return true;
+    free_machine(machine);
+    return false;
+}
+
+static bool make_bytes(struct bytes *bytes, size_t length)
+{
+    bytes->data = calloc(length, 1);
+    bytes->length = length;
+    if (bytes->data == NULL)
+        complain("there is not enough memory.");
+    return bytes->data != NULL;
+}
+
+bool make_machine(struct machine *machine, size_t ram_length)
+{
+    memset(machine, 0, sizeof *machine);
+    if (make_bytes(&machine->image, FLISKADEE_IMAGE_BYTES) && make_bytes(&machine->ram, ram_length + RAM_LEAST)
+        && make_bytes(&machine->pad, FLISKADEE_PAD_BYTES)) {
+        machine->ram.length = ram_length; /* the rest may be lent where this length may not */
+        return true;
+    }
     free_machine(machine);
     return false;
 }
@@ -120,6 +142,29 @@ struct outcome find_piece(struct machine *machine, uint64_t count, uint32_t mask
     return outcome_of(fliskadee_find_flag_lent(&lent, count, mask));
 }
 
+bool save_machine(const struct machine *machine, struct bytes *file, unsigned *code)
+{
+    struct fliskadee_lent lent = lend(machine);
+    if (!make_bytes(file, fliskadee_saved_bytes(machine->ram.length)))
+        return false;
+    struct fliskadee_answer answer = fliskadee_save_lent(&lent, file->data, file->length);
+    *code = (unsigned)answer.code;
+    file->length = (size_t)answer.number;
+    if (answer.code == FLISKADEE_DONE)
+        return true;
+    free(file->data);
+    file->data = NULL;
+    return true;
+}
+
+struct fliskadee_answer load_machine(struct machine *machine, const struct bytes *file)
+{
+    struct fliskadee_lent lent = lend(machine);
+    if (!is_ram_length(lent.ram_length))
+        lent.ram_length = RAM_LEAST;
+    return fliskadee_load_lent(file->data, file->length, &lent);
+}
+
 /* ---- Memory ---- */
 
 bool find_word(const struct machine *machine, uint32_t address, struct place *place)
@@ -163,35 +208,42 @@ void print_instruction(const struct machine *machine, const char *label)
     printf("%s%08X  %08X  %s\n", label, (unsigned)pc, (unsigned)word, text);
 }
 
+int print_refusal(unsigned code, const struct machine *machine, const char *done)
+{
+    switch (code) {
+    case FLISKADEE_REFUSED_IMAGE_LENGTH:
+        complain("code 1: refused, the image has %zu bytes in place of %d; nothing was %s.", machine->image.length,
+                 FLISKADEE_IMAGE_BYTES, done);
+        return STATUS_TROUBLE;
+    case FLISKADEE_REFUSED_IMAGE_FORM:
+        printf("Code 2: refused, the image is not well formed (the command check says why). Nothing was %s.\n", done);
+        return STATUS_FINDING;
+    case FLISKADEE_REFUSED_RAM_LENGTH:
+        complain("code 3: refused, the RAM has %zu bytes in place of a multiple of 4 from %d to %d; nothing was %s.",
+                 machine->ram.length, RAM_LEAST, FLISKADEE_MOST_RAM, done);
+        return STATUS_TROUBLE;
+    case FLISKADEE_REFUSED_PAD_LENGTH:
+        complain("code 6: refused, the pad has %zu bytes in place of %d; nothing was %s.", machine->pad.length,
+                 FLISKADEE_PAD_BYTES, done);
+        return STATUS_TROUBLE;
+    default:
+        complain("code %u: the library's answer is not one that this tool knows.", code);
+        return STATUS_TROUBLE;
+    }
+}
+
 int print_answer(struct outcome outcome, const struct machine *machine)
 {
     switch (outcome.code) {
     case FLISKADEE_DONE:
         printf("Code 0: all steps done, %" PRIu64 " of them.\n", outcome.steps);
         return STATUS_FINE;
-    case FLISKADEE_REFUSED_IMAGE_LENGTH:
-        complain("code 1: refused, the image has %zu bytes in place of %d; nothing was run.", machine->image.length,
-                 FLISKADEE_IMAGE_BYTES);
-        return STATUS_TROUBLE;
-    case FLISKADEE_REFUSED_IMAGE_FORM:
-        printf("Code 2: refused, the image is not well formed (the command check says why). Nothing was run.\n");
-        return STATUS_FINDING;
-    case FLISKADEE_REFUSED_RAM_LENGTH:
-        complain("code 3: refused, the RAM has %zu bytes in place of a multiple of 4 from %d to %d; nothing was run.",
-                 machine->ram.length, RAM_LEAST, FLISKADEE_MOST_RAM);
-        return STATUS_TROUBLE;
-    case FLISKADEE_REFUSED_PAD_LENGTH:
-        complain("code 6: refused, the pad has %zu bytes in place of %d; nothing was run.", machine->pad.length,
-                 FLISKADEE_PAD_BYTES);
-        return STATUS_TROUBLE;
     case FLISKADEE_REFUSED_COUNT: complain("code 4: refused, the step count is too large; nothing was run."); return STATUS_TROUBLE;
     case FLISKADEE_UNLISTED:
         printf("Code 5: stopped after %" PRIu64 " steps, just before an unknown GTE command.\n", outcome.steps);
         print_instruction(machine, "  at ");
         return STATUS_FINDING;
-    default:
-        complain("code %u: the library's answer is not one that this tool knows.", outcome.code);
-        return STATUS_TROUBLE;
+    default: return print_refusal(outcome.code, machine, "run");
     }
 }
 

@@ -6,6 +6,7 @@
 #include <stdint.h>
 
 #include "files.h"
+#include "fliskadee.h"
 
 enum { STATUS_FINE = 0, STATUS_FINDING = 1, STATUS_TROUBLE = 2 };
 
@@ -37,6 +38,8 @@ struct outcome {
 
 /* Each complains where it fails, and answers false. Without a path the pad is zeros. */
 bool read_machine(struct machine *machine, const char *image, const char *ram, const char *pad);
+bool read_pad(const char *path, struct bytes *pad);
+bool make_machine(struct machine *machine, size_t ram_length); /* of zeros, which are no good image */
 bool copy_machine(struct machine *to, const struct machine *from);
 void assign_machine(struct machine *to, const struct machine *from);
 void free_machine(struct machine *machine);
@@ -58,6 +61,17 @@ bool was_run(struct outcome outcome);
 
 /* The library's answer in words, and the status that goes with it; what is trouble goes to stderr. */
 int print_answer(struct outcome outcome, const struct machine *machine);
+
+/* A refusal for an image, a RAM or a pad in the same way; nothing was run, or nothing was written. */
+int print_refusal(unsigned code, const struct machine *machine, const char *done);
+
+/* The machine as one file, which is made to be written and has to be freed. Answers false, after a complaint, where there is no
+   memory; there is no file with any code but FLISKADEE_DONE. */
+bool save_machine(const struct machine *machine, struct bytes *file, unsigned *code);
+
+/* Loads the machine of such a file, by the library's answer. RAM of a length that the library refuses is lent as RAM_LEAST bytes, so
+   that it judges the file. */
+struct fliskadee_answer load_machine(struct machine *machine, const struct bytes *file);
 
 /* Where the word at a virtual address is, if loads and stores reach one there. */
 bool find_word(const struct machine *machine, uint32_t address, struct place *place);
