@@ -1,4 +1,5 @@
-/* The command-line tool: run machines, look at them, compare them, find the step that set a flag, and say why it did. */
+/* The command-line tool: run machines, look at them, compare them, save and load them, find the step that set a flag, and say why it
+   did. */
 #define _POSIX_C_SOURCE 200809L
 
 #include <inttypes.h>
@@ -9,108 +10,16 @@
 #include <strings.h>
 #include <unistd.h>
 
+#include "arguments.h"
 #include "disassemble.h"
 #include "files.h"
 #include "fliskadee.h"
 #include "follow.h"
 #include "image.h"
 #include "machine.h"
+#include "saved_file.h"
 #include "show.h"
 #include "why.h"
-
-static bool has_length(const char *path, const struct bytes *bytes, const char *what, size_t length)
-{
-    if (bytes->length == length)
-        return true;
-    complain("%s has %zu bytes; %s has %zu.", path, bytes->length, what, length);
-    return false;
-}
-
-static bool read_image(const char *path, struct bytes *image)
-{
-    if (!read_file(path, FILE_MOST, image))
-        return false;
-    if (has_length(path, image, "an image", FLISKADEE_IMAGE_BYTES))
-        return true;
-    free(image->data);
-    image->data = NULL;
-    return false;
-}
-
-static bool parse_argument(const char *text, const char *what, uint64_t least_value, uint64_t most, uint64_t *value)
-{
-    if (parse_number(text, value) && *value >= least_value && *value <= most)
-        return true;
-    complain("%s must be a number from %" PRIu64 " to %" PRIu64 " (decimal, or hex after 0x), not \"%s\".", what,
-             least_value, most, text);
-    return false;
-}
-
-/* ---- Options ---- */
-
-/* "--name", or "--name=VALUE" */
-static bool is_option(const char *argument, const char *name)
-{
-    size_t length = strlen(name);
-    return strncmp(argument, name, length) == 0 && (argument[length] == '\0' || argument[length] == '=');
-}
-
-/* Takes the value of an option: after an equals sign, or as the next argument. */
-static bool take_option(const char *name, const char *what, const char **value, int count, char **arguments, int *i)
-{
-    const char *equals = strchr(arguments[*i], '=');
-    if (*value != NULL) {
-        complain("%s is given twice.", name);
-        return false;
-    }
-    if (equals == NULL && *i + 1 >= count) {
-        complain("%s needs %s after it.", name, what);
-        return false;
-    }
-    *value = equals != NULL ? equals + 1 : arguments[++*i];
-    return true;
-}
-
-/* Takes the pad of the next of a command's machines. */
-static bool take_pad(const char **pads, int machines, int count, char **arguments, int *i)
-{
-    int taken = 0;
-    while (taken < machines && pads[taken] != NULL)
-        taken++;
-    if (taken < machines)
-        return take_option("--pad", "a file name", &pads[taken], count, arguments, i);
-    complain("--pad is given more than %s.", machines == 1 ? "once" : "twice");
-    return false;
-}
-
-/* Where there are two machines, one pad alone could be that of either. */
-static bool have_pads(const char *command, const char *const pads[2])
-{
-    if ((pads[0] == NULL) == (pads[1] == NULL))
-        return true;
-    complain("%s has two machines: give --pad twice, first for the first and then for the second, or not at all.", command);
-    return false;
-}
-
-static bool take_positional(const char *command, const char **positional, int most, int *taken, const char *argument)
-{
-    if (strncmp(argument, "--", 2) == 0) {
-        complain("%s has no option %s.", command, argument);
-        return false;
-    }
-    if (*taken < most)
-        positional[*taken] = argument;
-    ++*taken;
-    return true;
-}
-
-static bool have_positionals(const char *command, const char *usage, int wanted, int taken)
-{
-    if (taken == wanted)
-        return true;
-    complain("%s takes %s, but %d of them are given; see fliskadee %s --help.", command, usage, taken, command);
-    return false;
-}
 
 /* ---- run ---- */
 
@@ -131,11 +40,13 @@ static struct outcome run_steps(struct machine *machine, uint64_t count)
 }
 
 struct run_arguments {
-    const char *positional[3];
+    const char *positional[3]; /* the machine's files, then N */
+    int files;
     const char *pad;
     const char *image_out;
     const char *ram_out;
     const char *pad_out;
+    const char *saved_out;
     bool quiet;
 };
 
@@ -151,6 +62,8 @@ static bool take_run_arguments(struct run_arguments *taken, int count, char **ar
             good = take_option("--ram-out", "a file name", &taken->ram_out, count, arguments, &i);
         else if (is_option(arguments[i], "--pad-out"))
             good = take_option("--pad-out", "a file name", &taken->pad_out, count, arguments, &i);
+        else if (is_option(arguments[i], "--saved-out"))
+            good = take_option("--saved-out", "a file name", &taken->saved_out, count, arguments, &i);
         else if (is_option(arguments[i], "--pad"))
             good = take_pad(&taken->pad, 1, count, arguments, &i);
         else if (strcmp(arguments[i], "--quiet") == 0)
@@ -160,7 +73,8 @@ static bool take_run_arguments(struct run_arguments *taken, int count, char **ar
         if (!good)
             return false;
     }
-    return have_positionals("run", "IMAGE RAM N", 3, positionals);
+    taken->files = positionals - 1;
+    return have_positionals("run", "IMAGE RAM N or SAVED N", 2, 3, positionals);
 }
 
 /* The exceptions that a run takes. A run is followed step by step up to a bound; a longer one would take too long. */
@@ -205,23 +119,38 @@ static void print_exceptions(const struct exceptions *exceptions)
                exception_name(exceptions->code));
 }
 
+/* The machine as a run left it. The library saves what it runs. */
+static bool save_left(const struct machine *machine, struct bytes *saved)
+{
+    unsigned code;
+    if (!save_machine(machine, saved, &code))
+        return false;
+    if (code != FLISKADEE_DONE)
+        print_refusal(code, machine, "written");
+    return code == FLISKADEE_DONE;
+}
+
 static int command_run(int count, char **arguments)
 {
     struct run_arguments taken;
     struct machine machine;
+    struct source source;
+    struct bytes saved = {NULL, 0};
     struct exceptions exceptions;
     uint64_t steps;
     if (!take_run_arguments(&taken, count, arguments)
-        || !parse_argument(taken.positional[2], "N", 0, UINT64_MAX, &steps))
+        || !parse_argument(taken.positional[taken.files], "N", 0, UINT64_MAX, &steps))
         return STATUS_TROUBLE;
     const struct output outputs[] = {
-        {taken.image_out, &machine.image}, {taken.ram_out, &machine.ram}, {taken.pad_out, &machine.pad}};
+        {taken.image_out, &machine.image}, {taken.ram_out, &machine.ram}, {taken.pad_out, &machine.pad}, {taken.saved_out, &saved}};
     enum { OUTPUTS = sizeof outputs / sizeof outputs[0] };
-    if (!check_outputs(outputs, OUTPUTS) || !read_machine(&machine, taken.positional[0], taken.positional[1], taken.pad))
+    if (!check_outputs(outputs, OUTPUTS)
+        || !read_machines("run", taken.positional, taken.files, &taken.pad, 1, &machine, &source))
         return STATUS_TROUBLE;
     struct outcome outcome = run_counting(&machine, steps, &exceptions);
     /* The files come first, as a reader of the report may end early. */
-    bool written = !was_run(outcome) || write_outputs(outputs, OUTPUTS);
+    bool written = !was_run(outcome)
+                   || ((taken.saved_out == NULL || save_left(&machine, &saved)) && write_outputs(outputs, OUTPUTS));
     int status = STATUS_FINE;
     if (!taken.quiet || outcome.code != FLISKADEE_DONE)
         status = print_answer(outcome, &machine);
@@ -230,6 +159,7 @@ static int command_run(int count, char **arguments)
         printf("\n");
         show_image(stdout, machine.image.data);
     }
+    free(saved.data);
     free_machine(&machine);
     return written ? status : STATUS_TROUBLE;
 }
@@ -264,87 +194,143 @@ static unsigned library_code(const struct bytes *image)
         fliskadee_run(image->data, image->length, some_ram, sizeof some_ram, some_pad, sizeof some_pad, 0));
 }
 
-static int command_check(int count, char **arguments)
+/* Whether it says of an image what this tool says. */
+static bool library_agrees(const struct bytes *image, unsigned expected)
 {
-    struct bytes image;
-    unsigned expected;
-    (void)count;
-    if (!read_file(arguments[0], FILE_MOST, &image))
-        return STATUS_TROUBLE;
-    if (image.length != FLISKADEE_IMAGE_BYTES) {
-        printf("The file has %zu bytes; an image has %d.\n", image.length, FLISKADEE_IMAGE_BYTES);
-        expected = FLISKADEE_REFUSED_IMAGE_LENGTH;
-    } else {
-        unsigned wrong = check_image(image.data, tell_wrong_word, image.data);
-        expected = wrong == 0 ? FLISKADEE_DONE : FLISKADEE_REFUSED_IMAGE_FORM;
-        if (wrong == 0)
-            printf("The image is well formed.\n");
-        else
-            printf("The image is not well formed: %u word%s wrong.\n", wrong, wrong == 1 ? " is" : "s are");
-    }
-    unsigned code = library_code(&image);
-    free(image.data);
-    if (code != expected) {
+    unsigned code = library_code(image);
+    if (code != expected)
         complain("DISAGREEMENT: this tool expects code %u for the image, but the library answers code %u. "
                  "One of the two is wrong; please report it.",
                  expected, code);
-        return STATUS_TROUBLE;
-    }
-    return expected == FLISKADEE_DONE ? STATUS_FINE : STATUS_FINDING;
+    return code == expected;
 }
 
-static int diff_images(const char *const *files)
+static int check_words(const struct bytes *image)
 {
-    struct bytes images[2];
-    if (!read_image(files[0], &images[0]))
+    unsigned wrong = check_image(image->data, tell_wrong_word, image->data);
+    if (wrong == 0)
+        printf("The image is well formed.\n");
+    else
+        printf("The image is not well formed: %u word%s wrong.\n", wrong, wrong == 1 ? " is" : "s are");
+    if (!library_agrees(image, wrong == 0 ? FLISKADEE_DONE : FLISKADEE_REFUSED_IMAGE_FORM))
         return STATUS_TROUBLE;
-    if (!read_image(files[1], &images[1])) {
-        free(images[0].data);
+    return wrong == 0 ? STATUS_FINE : STATUS_FINDING;
+}
+
+static bool all_zeros(const struct bytes *bytes)
+{
+    for (size_t i = 0; i < bytes->length; i++)
+        if (bytes->data[i] != 0)
+            return false;
+    return true;
+}
+
+static int check_well_formed(const struct saved_form *form, const struct machine *machine)
+{
+    printf("The saved machine is well formed: %zu bytes of RAM in %zu block%s, and a pad %s.\n", form->ram, form->blocks,
+           form->blocks == 1 ? "" : "s", all_zeros(&machine->pad) ? "of zeros" : "that is not zeros");
+    int status = check_words(&machine->image);
+    if (is_ram_length(form->ram))
+        return status;
+    printf("No machine is run with %zu bytes of RAM, which has a multiple of 4 from %d to %d.\n", form->ram, RAM_LEAST,
+           FLISKADEE_MOST_RAM);
+    return status == STATUS_FINE ? STATUS_FINDING : status;
+}
+
+/* A file that is told to be a saved machine; one that is neither that nor an image. */
+static int check_saved(const struct bytes *file, bool neither)
+{
+    struct saved_form form;
+    struct machine machine;
+    unsigned code;
+    if (!open_saved(file, &form, &machine, &code))
         return STATUS_TROUBLE;
+    if (form.malformed) {
+        printf("%s %s.\n", neither ? "As a saved machine it" : "The saved machine is malformed. It", form.words);
+        return STATUS_FINDING;
     }
-    uint64_t differing = compare_images(images[0].data, images[1].data);
+    int status = check_well_formed(&form, &machine);
+    free_machine(&machine);
+    return status;
+}
+
+static int check_neither(const struct bytes *file)
+{
+    printf("The file has %zu bytes; an image has %d.\n", file->length, FLISKADEE_IMAGE_BYTES);
+    if (!library_agrees(file, FLISKADEE_REFUSED_IMAGE_LENGTH))
+        return STATUS_TROUBLE;
+    return check_saved(file, true);
+}
+
+static int command_check(int count, char **arguments)
+{
+    struct bytes file;
+    int status;
+    (void)count;
+    if (!read_file(arguments[0], FILE_MOST, &file))
+        return STATUS_TROUBLE;
+    if (begins_saved(&file))
+        status = check_saved(&file, false);
+    else
+        status = file.length == FLISKADEE_IMAGE_BYTES ? check_words(&file) : check_neither(&file);
+    free(file.data);
+    return status;
+}
+
+static void print_source(const struct source *source)
+{
+    printf("%s", source->file);
+    if (source->ram != NULL)
+        printf(" and %s", source->ram);
+}
+
+/* Registers, RAM and pad. */
+static int diff_machines(const struct machine machines[2], const struct source sources[2])
+{
+    uint64_t registers = compare_images(machines[0].image.data, machines[1].image.data);
+    uint64_t words = compare_memories(machines);
+    if (registers + words == 0) {
+        printf("The machines are equal: registers, RAM and pad.\n");
+        return STATUS_FINE;
+    }
+    printf("%" PRIu64 " register%s. In each pair above the first is of ", registers, registers == 1 ? " differs" : "s differ");
+    print_source(&sources[0]);
+    printf(", the second of ");
+    print_source(&sources[1]);
+    printf(".\n");
+    return STATUS_FINDING;
+}
+
+/* Registers alone. One of the two may be a saved machine. */
+static int diff_images(const struct machine machines[2], const struct source sources[2])
+{
+    uint64_t differing = compare_images(machines[0].image.data, machines[1].image.data);
     if (differing == 0)
         printf("The images are equal.");
     else
         printf("%" PRIu64 " register%s. In each pair above the first line is %s, the second %s.", differing,
-               differing == 1 ? " differs" : "s differ", files[0], files[1]);
-    printf(" RAM and pad were not looked at.\n");
-    free(images[0].data);
-    free(images[1].data);
+               differing == 1 ? " differs" : "s differ", sources[0].file, sources[1].file);
+    printf(" RAM and pad were not looked at");
+    for (unsigned i = 0; i < 2; i++)
+        if (machines[i].ram.data != NULL)
+            printf(", since %s is an image alone", sources[1 - i].file);
+    printf(".\n");
     return differing == 0 ? STATUS_FINE : STATUS_FINDING;
 }
 
-/* The files are IMAGE RAM IMAGE RAM. */
-static bool read_two_machines(struct machine machines[2], const char *const *files, const char *const pads[2])
+/* Two files, each a saved machine or an image alone. */
+static int diff_alone(const char *const *files)
 {
-    if (!read_machine(&machines[0], files[0], files[1], pads[0]))
-        return false;
-    if (read_machine(&machines[1], files[2], files[3], pads[1]))
-        return true;
-    free_machine(&machines[0]);
-    return false;
-}
-
-static int diff_machines(const char *const *files, const char *const pads[2])
-{
+    const struct source sources[2] = {{files[0], NULL, NULL}, {files[1], NULL, NULL}};
     struct machine machines[2];
-    int status = STATUS_TROUBLE;
-    bool good = true;
-    if (!read_two_machines(machines, files, pads))
+    if (!read_alone(files[0], &machines[0]))
         return STATUS_TROUBLE;
-    for (unsigned i = 0; good && i < 2; i++)
-        good = has_length(files[2 * i], &machines[i].image, "an image", FLISKADEE_IMAGE_BYTES)
-               && has_length(pads[i], &machines[i].pad, "a pad", FLISKADEE_PAD_BYTES);
-    if (good) {
-        uint64_t registers = compare_images(machines[0].image.data, machines[1].image.data);
-        uint64_t words = compare_memories(machines);
-        if (registers + words == 0)
-            printf("The machines are equal: registers, RAM and pad.\n");
-        else
-            printf("%" PRIu64 " register%s. In each pair above the first is of %s and %s, the second of %s and %s.\n",
-                   registers, registers == 1 ? " differs" : "s differ", files[0], files[1], files[2], files[3]);
-        status = registers + words == 0 ? STATUS_FINE : STATUS_FINDING;
+    if (!read_alone(files[1], &machines[1])) {
+        free_machine(&machines[0]);
+        return STATUS_TROUBLE;
     }
+    bool whole = machines[0].ram.data != NULL && machines[1].ram.data != NULL;
+    int status = whole ? diff_machines(machines, sources) : diff_images(machines, sources);
     free_machine(&machines[0]);
     free_machine(&machines[1]);
     return status;
@@ -354,19 +340,26 @@ static int command_diff(int count, char **arguments)
 {
     const char *files[4];
     const char *pads[2] = {NULL, NULL};
+    struct machine machines[2];
+    struct source sources[2];
     int taken = 0;
-    for (int i = 0; i < count; i++) {
-        bool good = is_option(arguments[i], "--pad") ? take_pad(pads, 2, count, arguments, &i)
-                                                     : take_positional("diff", files, 4, &taken, arguments[i]);
-        if (!good)
-            return STATUS_TROUBLE;
-    }
+    bool good = true;
+    for (int i = 0; good && i < count; i++)
+        good = is_option(arguments[i], "--pad") ? take_pad(pads, 2, count, arguments, &i)
+                                                : take_positional("diff", files, 4, &taken, arguments[i]);
+    if (!good || !have_positionals("diff", "IMAGE IMAGE, or twice IMAGE RAM or SAVED", 2, 4, taken))
+        return STATUS_TROUBLE;
     if (taken == 2 && pads[0] == NULL)
-        return diff_images(files);
-    if (taken == 4)
-        return have_pads("diff", pads) ? diff_machines(files, pads) : STATUS_TROUBLE;
-    complain("diff takes IMAGE IMAGE, or IMAGE RAM IMAGE RAM with their pads or without; see fliskadee diff --help.");
-    return STATUS_TROUBLE;
+        return diff_alone(files);
+    if (!read_machines("diff", files, taken, pads, 2, machines, sources))
+        return STATUS_TROUBLE;
+    for (unsigned i = 0; good && i < 2; i++)
+        good = has_length(sources[i].file, &machines[i].image, "an image", FLISKADEE_IMAGE_BYTES)
+               && has_length(sources[i].pad, &machines[i].pad, "a pad", FLISKADEE_PAD_BYTES);
+    int status = good ? diff_machines(machines, sources) : STATUS_TROUBLE;
+    free_machine(&machines[0]);
+    free_machine(&machines[1]);
+    return status;
 }
 
 /* ---- flags, part ---- */
@@ -381,6 +374,7 @@ static int command_flags(int count, char **arguments)
     uint64_t bit = 0;
     uint64_t steps;
     struct machine machine;
+    struct source source;
     for (int i = 0; i < count; i++) {
         if (strcmp(arguments[i], "--last") == 0) {
             last = true;
@@ -394,10 +388,10 @@ static int command_flags(int count, char **arguments)
             return STATUS_TROUBLE;
         }
     }
-    if (!have_positionals("flags", "IMAGE RAM N", 3, positionals)
+    if (!have_positionals("flags", "IMAGE RAM N or SAVED N", 2, 3, positionals)
         || (bit_text != NULL && !parse_argument(bit_text, "B", 12, 31, &bit))
-        || !parse_argument(positional[2], "N", 0, UINT64_MAX, &steps)
-        || !read_machine(&machine, positional[0], positional[1], pad))
+        || !parse_argument(positional[positionals - 1], "N", 0, UINT64_MAX, &steps)
+        || !read_machines("flags", positional, positionals - 1, &pad, 1, &machine, &source))
         return STATUS_TROUBLE;
     int status = follow_flags(&machine, steps, bit_text == NULL ? -1 : (int)bit, last);
     free_machine(&machine);
@@ -411,6 +405,7 @@ static int command_part(int count, char **arguments)
     int positionals = 0;
     struct part_options options = {false, false};
     struct machine machines[2];
+    struct source sources[2];
     uint64_t steps;
     for (int i = 0; i < count; i++) {
         bool good = true;
@@ -425,8 +420,9 @@ static int command_part(int count, char **arguments)
         if (!good)
             return STATUS_TROUBLE;
     }
-    if (!have_positionals("part", "IMAGE RAM IMAGE RAM N", 5, positionals) || !have_pads("part", pads)
-        || !parse_argument(positional[4], "N", 0, UINT64_MAX, &steps) || !read_two_machines(machines, positional, pads))
+    if (!have_positionals("part", "twice IMAGE RAM or SAVED, and N", 3, 5, positionals)
+        || !parse_argument(positional[positionals - 1], "N", 0, UINT64_MAX, &steps)
+        || !read_machines("part", positional, positionals - 1, pads, 2, machines, sources))
         return STATUS_TROUBLE;
     int status = follow_parting(machines, steps, options);
     free_machine(&machines[0]);
@@ -540,6 +536,7 @@ static int command_find_flag(int count, char **arguments)
     int positionals = 0;
     struct machine machine;
     struct machine before;
+    struct source source;
     uint64_t bit;
     uint64_t steps;
     for (int i = 0; i < count; i++) {
@@ -549,9 +546,10 @@ static int command_find_flag(int count, char **arguments)
         if (!good)
             return STATUS_TROUBLE;
     }
-    if (!have_positionals("find-flag", "BIT IMAGE RAM N", 4, positionals)
-        || !parse_argument(positional[0], "BIT", 12, 31, &bit) || !parse_argument(positional[3], "N", 0, UINT64_MAX, &steps)
-        || !read_machine(&machine, positional[1], positional[2], pad))
+    if (!have_positionals("find-flag", "BIT IMAGE RAM N or BIT SAVED N", 3, 4, positionals)
+        || !parse_argument(positional[0], "BIT", 12, 31, &bit)
+        || !parse_argument(positional[positionals - 1], "N", 0, UINT64_MAX, &steps)
+        || !read_machines("find-flag", positional + 1, positionals - 2, &pad, 1, &machine, &source))
         return STATUS_TROUBLE;
     if (!copy_machine(&before, &machine)) {
         free_machine(&machine);
@@ -651,8 +649,10 @@ static int command_why(int count, char **arguments)
 {
     const char *positional[2];
     const char *ram = NULL;
+    const char *no_pad = NULL; /* nothing is fetched from the pad, so its words do not matter */
     int positionals = 0;
     struct machine machine;
+    struct source source;
     for (int i = 0; i < count; i++) {
         bool good = is_option(arguments[i], "--ram") ? take_option("--ram", "a file name", &ram, count, arguments, &i)
                                                      : take_positional("why", positional, 2, &positionals, arguments[i]);
@@ -661,12 +661,13 @@ static int command_why(int count, char **arguments)
     }
     if (positionals == 2 && ram == NULL)
         return why_word(positional[0], positional[1]);
-    if (positionals != 1 || ram == NULL) {
-        complain("why takes IMAGE WORD, or IMAGE --ram RAM for the command at PC; see fliskadee why --help.");
+    if (positionals != 1) {
+        complain("why takes IMAGE WORD, or IMAGE --ram RAM for the command at PC, or SAVED in place of either; "
+                 "see fliskadee why --help.");
         return STATUS_TROUBLE;
     }
-    /* Nothing is fetched from the pad, so its words do not matter. */
-    if (!read_machine(&machine, positional[0], ram, NULL))
+    const char *const files[2] = {positional[0], ram};
+    if (!read_machines("why", files, ram == NULL ? 1 : 2, &no_pad, 1, &machine, &source))
         return STATUS_TROUBLE;
     int status = why_next(&machine);
     free_machine(&machine);
@@ -691,7 +692,7 @@ static int command_disassemble(int count, char **arguments)
     if (!read_file(arguments[0], FILE_MOST, &ram))
         return STATUS_TROUBLE;
     uint64_t part = fliskadee_window(ram.data, ram.length, some_pad, sizeof some_pad, (uint32_t)address, 4 * words);
-    if (ram.length % 4 != 0 || ram.length < RAM_LEAST || ram.length > FLISKADEE_MOST_RAM) {
+    if (!is_ram_length(ram.length)) {
         complain("%s has %zu bytes; a RAM has a multiple of 4 from %d to %d.", arguments[0], ram.length, RAM_LEAST, FLISKADEE_MOST_RAM);
         free(ram.data);
         return STATUS_TROUBLE;
@@ -744,14 +745,18 @@ static void tell_refused_word(void *context, unsigned word, const char *why)
 }
 
 /* An existing file is written over only where that is asked for. */
+static bool may_write(const char *path, bool replace)
+{
+    if (replace || is_standard(path) || access(path, F_OK) != 0)
+        return true;
+    complain("%s exists; give --replace to write over it.", path);
+    return false;
+}
+
 static int write_made(const char *path, bool replace, const struct bytes *bytes)
 {
     const struct output output = {path, bytes};
-    if (!replace && !is_standard(path) && access(path, F_OK) == 0) {
-        complain("%s exists; give --replace to write over it.", path);
-        return STATUS_TROUBLE;
-    }
-    return write_outputs(&output, 1) ? STATUS_FINE : STATUS_TROUBLE;
+    return may_write(path, replace) && write_outputs(&output, 1) ? STATUS_FINE : STATUS_TROUBLE;
 }
 
 /* The image that a new one starts from. */
@@ -894,6 +899,98 @@ static int command_make_pad(int count, char **arguments)
     return make_memory("make-pad", MEMORY_PAD, count, arguments);
 }
 
+/* ---- save, load ---- */
+
+static int command_save(int count, char **arguments)
+{
+    const char *positional[3];
+    const char *pad = NULL;
+    int positionals = 0;
+    bool replace = false;
+    struct machine machine;
+    struct bytes saved = {NULL, 0};
+    unsigned code;
+    for (int i = 0; i < count; i++) {
+        bool good = true;
+        if (strcmp(arguments[i], "--replace") == 0)
+            replace = true;
+        else if (is_option(arguments[i], "--pad"))
+            good = take_pad(&pad, 1, count, arguments, &i);
+        else
+            good = take_positional("save", positional, 3, &positionals, arguments[i]);
+        if (!good)
+            return STATUS_TROUBLE;
+    }
+    if (!have_positionals("save", "IMAGE RAM FILE", 3, 3, positionals))
+        return STATUS_TROUBLE;
+    const struct output output = {positional[2], &saved};
+    if (!may_write(output.path, replace) || !check_outputs(&output, 1)
+        || !read_machine(&machine, positional[0], positional[1], pad))
+        return STATUS_TROUBLE;
+    int status = STATUS_TROUBLE;
+    if (save_machine(&machine, &saved, &code)) {
+        if (code != FLISKADEE_DONE)
+            status = print_refusal(code, &machine, "written");
+        else if (write_outputs(&output, 1))
+            status = STATUS_FINE;
+    }
+    free(saved.data);
+    free_machine(&machine);
+    return status;
+}
+
+/* Writes the files of a machine that the library has loaded. */
+static int write_loaded(unsigned code, const char *path, const struct machine *machine, const struct output outputs[3])
+{
+    if (code == FLISKADEE_REFUSED_SPACE) {
+        complain("%s is a well-formed saved machine, but no machine is run with %zu bytes of RAM, which has a multiple of 4 from %d to "
+                 "%d; nothing was written.",
+                 input_name(path), machine->ram.length, RAM_LEAST, FLISKADEE_MOST_RAM);
+        return STATUS_TROUBLE;
+    }
+    if (code != FLISKADEE_DONE)
+        return print_refusal(code, machine, "written");
+    if (outputs[2].path == NULL && !all_zeros(&machine->pad)) {
+        complain("the pad of %s is not zeros, which commands take where no pad is given; name a file for it after that of the RAM. "
+                 "Nothing was written.",
+                 input_name(path));
+        return STATUS_TROUBLE;
+    }
+    return write_outputs(outputs, 3) ? STATUS_FINE : STATUS_TROUBLE;
+}
+
+static int command_load(int count, char **arguments)
+{
+    const char *positional[4] = {NULL, NULL, NULL, NULL};
+    int positionals = 0;
+    bool replace = false;
+    struct machine machine;
+    struct bytes file;
+    unsigned code;
+    for (int i = 0; i < count; i++) {
+        if (strcmp(arguments[i], "--replace") == 0)
+            replace = true;
+        else if (!take_positional("load", positional, 4, &positionals, arguments[i]))
+            return STATUS_TROUBLE;
+    }
+    if (!have_positionals("load", "FILE IMAGE RAM and where it is not zeros PAD", 3, 4, positionals))
+        return STATUS_TROUBLE;
+    const struct output outputs[3] = {
+        {positional[1], &machine.image}, {positional[2], &machine.ram}, {positional[3], &machine.pad}};
+    for (int i = 1; i < positionals; i++)
+        if (!may_write(positional[i], replace))
+            return STATUS_TROUBLE;
+    if (!check_outputs(outputs, 3) || !read_file(positional[0], FILE_MOST, &file))
+        return STATUS_TROUBLE;
+    int status = STATUS_TROUBLE;
+    if (load_saved(positional[0], &file, &machine, &code)) {
+        status = write_loaded(code, positional[0], &machine, outputs);
+        free_machine(&machine);
+    }
+    free(file.data);
+    return status;
+}
+
 /* ---- Commands ---- */
 
 struct command {
@@ -905,45 +1002,55 @@ struct command {
     const char *help;
 };
 
-#define PAD_HELP "The scratch pad is zeros, or with --pad the file of 1024 bytes that is named.\n"
+#define PAD_HELP \
+    "The scratch pad is zeros, or with --pad the file of 1024 bytes that is named. In place of IMAGE and RAM one file\n" \
+    "SAVED may stand, a saved machine (see save), which has its own pad.\n"
 #define PADS_HELP \
     "Both scratch pads are zeros; or --pad is given twice, with a file of 1024 bytes for the first machine and then\n" \
-    "with one for the second.\n"
+    "with one for the second. In place of each IMAGE and RAM one file SAVED may stand, a saved machine (see save), which\n" \
+    "has its own pad; where one of the two is saved, --pad is given once, for the other, or not at all.\n"
 
 static const struct command commands[] = {
-    {"run", command_run, -1, "IMAGE RAM N [--pad FILE] [--image-out FILE] [--ram-out FILE] [--pad-out FILE] [--quiet]",
+    {"run", command_run, -1,
+     "(IMAGE RAM | SAVED) N [--pad FILE] [--image-out FILE] [--ram-out FILE] [--pad-out FILE] [--saved-out FILE] [--quiet]",
      "run N steps and print the registers",
      "Runs N steps of the machine in the files IMAGE and RAM, and prints the library's answer in words and\n"
      "every register by name. N may be any 64-bit number; more than 1,000,000 are run in pieces. Exceptions that\n"
      "were taken are mentioned, in runs of up to 10,000,000 steps. With --quiet only what is not code 0 is said.\n"
      PAD_HELP
      "The files themselves never change. With --image-out, --ram-out and --pad-out the machine after the run is\n"
-     "written to the files named, which may be those it was read from: all of them or none. They are not written\n"
-     "if the run is refused.\n"
+     "written to the files named, and with --saved-out as one saved machine. They may be those it was read from: all\n"
+     "of them are written or none, and none if the run is refused.\n"
      "If the run stops before an unknown GTE command (code 5), the machine just before it is printed and written.\n"
      "\n"
      "Status: 0 all steps done; 1 stopped with code 5, or the image is not well formed; 2 bad usage, file trouble,\n"
-     "or a file of a wrong length.\n"},
-    {"show", command_show, 1, "IMAGE", "print every register of an image by name",
+     "a file of a wrong length, or a malformed saved machine.\n"},
+    {"show", command_show, 1, "IMAGE | SAVED", "print every register of an image by name",
      "Prints the general registers, PC, the load delay, SR and CAUSE with their bits, and all COP2 registers by\n"
-     "name; FLAG is explained bit by bit. An image that is not well formed is printed too, with a note.\n"
+     "name; FLAG is explained bit by bit. An image that is not well formed is printed too, with a note. Of a saved\n"
+     "machine it is the image that is printed.\n"
      "\n"
      "Status: 0 printed; 2 bad usage or file trouble.\n"},
-    {"check", command_check, 1, "IMAGE", "say which words of an image are not well formed, and why",
-     "Prints a line for each word that is not well formed, with the reason. The library is asked as well; if it\n"
-     "disagrees with this tool, that is said on stderr and the status is 2.\n"
+    {"check", command_check, 1, "IMAGE | SAVED", "say what is not well formed in an image or a saved machine, and why",
+     "Prints a line for each word of an image that is not well formed, with the reason. Of a saved machine it says how\n"
+     "much RAM it has and whether its pad is zeros, and then the same of its image; or, where it is malformed, the first\n"
+     "byte that cannot stand there, what it is, and what can stand there, or where it ends too early. A file that begins\n"
+     "with the bytes 01 B0 00 is taken for a saved machine, any other one of 432 bytes for an image. The library is asked\n"
+     "as well; if it disagrees with this tool, that is said on stderr and the status is 2.\n"
      "\n"
-     "Status: 0 well formed; 1 not well formed, or not of an image's length; 2 bad usage or file trouble.\n"},
-    {"diff", command_diff, -1, "IMAGE IMAGE | IMAGE RAM IMAGE RAM [--pad FILE --pad FILE]",
+     "Status: 0 well formed; 1 not well formed, malformed, neither an image nor a saved machine, or a saved machine with\n"
+     "RAM of a length that is not run; 2 bad usage or file trouble.\n"},
+    {"diff", command_diff, -1, "IMAGE IMAGE | (IMAGE RAM | SAVED) (IMAGE RAM | SAVED) [--pad FILE ...]",
      "compare two images, or two machines with RAM and pad",
      "Prints each register that differs, its value in the first image above its value in the second; FLAG is\n"
      "explained bit by bit. With two images and two RAMs, in the order IMAGE RAM IMAGE RAM, the words of RAM and\n"
      "then of the scratch pad that differ follow: the physical address and both values, the first 32 of each, and\n"
-     "how many there are. With two images alone it says that RAM and pad were not looked at.\n"
+     "how many there are. With two images alone, or an image alone and a saved machine, it says that RAM and pad were\n"
+     "not looked at.\n"
      PADS_HELP
      "\n"
      "Status: 0 equal; 1 different; 2 bad usage or file trouble.\n"},
-    {"flags", command_flags, -1, "IMAGE RAM N [--pad FILE] [--bit B] [--last]", "list the steps that wrote FLAG, and why",
+    {"flags", command_flags, -1, "(IMAGE RAM | SAVED) N [--pad FILE] [--bit B] [--last]", "list the steps that wrote FLAG, and why",
      "Runs at most N steps and prints a line for each completed step that wrote FLAG (a GTE command, or CTC2 to\n"
      "register 63): the step, its PC, word and instruction, FLAG before and after, and the bits that came (+) and\n"
      "went (-) by name. Under a GTE command stands a line for each cause of a bit that it set, as why tells them but\n"
@@ -954,7 +1061,7 @@ static const struct command commands[] = {
      "\n"
      "Status: 0 printed; 1 no such step, or the run stopped before an unknown GTE command, or the image is not well\n"
      "formed; 2 bad usage or file trouble.\n"},
-    {"part", command_part, -1, "IMAGE RAM IMAGE RAM N [--pad FILE --pad FILE] [--flag] [--coarse]",
+    {"part", command_part, -1, "(IMAGE RAM | SAVED) (IMAGE RAM | SAVED) N [--pad FILE ...] [--flag] [--coarse]",
      "find the step at which two machines part",
      "Runs two machines in lockstep, at most N steps, and finds the first step at which something that was equal\n"
      "differs: a register, or the word of RAM or of the scratch pad that a store addressed; with --flag, FLAG alone.\n"
@@ -968,7 +1075,8 @@ static const struct command commands[] = {
      "\n"
      "Status: 0 they do not part; 1 they part, or one stops before an unknown GTE command, or an image is not well\n"
      "formed; 2 bad usage or file trouble.\n"},
-    {"find-flag", command_find_flag, -1, "BIT IMAGE RAM N [--pad FILE]", "find the first step at which a bit of FLAG comes up",
+    {"find-flag", command_find_flag, -1, "BIT (IMAGE RAM | SAVED) N [--pad FILE]",
+     "find the first step at which a bit of FLAG comes up",
      "Runs at most N steps and finds the first one at which bit BIT (12..31) of FLAG comes up: it is clear before\n"
      "the step and set after it. Prints the step's number (the first step is 1), its PC and instruction, FLAG before\n"
      "and after bit by bit, for a GTE command with the causes of each bit (see why), and the registers that the\n"
@@ -983,14 +1091,15 @@ static const struct command commands[] = {
      "  27 MAC1 negative   28 MAC3 positive   29 MAC2 positive   30 MAC1 positive   31 error (30..23, 18..13)\n"
      "\n"
      "Status: 0 found; 1 not found, or the image is not well formed; 2 bad usage or file trouble.\n"},
-    {"why", command_why, -1, "IMAGE WORD | IMAGE --ram RAM", "say why a GTE command sets bits of FLAG",
+    {"why", command_why, -1, "IMAGE WORD | IMAGE --ram RAM | SAVED [WORD]", "say why a GTE command sets bits of FLAG",
      "Prints FLAG as a GTE command leaves it on the machine of IMAGE, bit by bit, and under each bit from 30 to 12 every\n"
      "cause: for a triple the part and its vertex (or colour); the line of the command's formula in 001, by its text and\n"
      "its number (counted from 1: the lines of the block that write a register, those marked for other commands too);\n"
      "and the exact value that left its range, or H and SZ3 for bit 17.\n"
      "WORD is the command: decimal, or hex after 0x; its top seven bits are ignored. With --ram in place of WORD it is\n"
-     "the instruction at PC, as the next step fetches it, which is never from the scratch pad. Where CU2 of SR is clear,\n"
-     "the causes are told all the same, and that the step itself takes CpU. No file changes.\n"
+     "the instruction at PC, as the next step fetches it, which is never from the scratch pad; so it is of a saved machine\n"
+     "without WORD. Where CU2 of SR is clear, the causes are told all the same, and that the step itself takes CpU. No\n"
+     "file changes.\n"
      "\n"
      "Status: 0 printed, also where no bit is set; 1 the image is not well formed, the command is not one of the 22, or\n"
      "there is none at PC; 2 bad usage or file trouble.\n"},
@@ -999,10 +1108,23 @@ static const struct command commands[] = {
      "hex after 0x, and a multiple of 4; addresses beginning with bits 000, 100 and 101 name the same RAM.\n"
      "\n"
      "Status: 0 printed; 2 bad usage, file trouble, or not all of the words are in RAM.\n"},
-    {"make-image", command_make_image, -1, "FILE [--from IMAGE] [NAME=VALUE ...] [--replace]",
+    {"save", command_save, -1, "IMAGE RAM [--pad FILE] FILE [--replace]", "write a machine as one file",
+     "Writes the machine of IMAGE, RAM and scratch pad, which is zeros where no --pad is given, to FILE as a saved\n"
+     "machine. A machine has one such file and a file one machine, byte for byte. Commands take it, as SAVED, in place of\n"
+     "IMAGE and RAM, and load takes it apart again. include/fliskadee.h says how its bytes stand.\n"
+     "An existing file is replaced only with --replace.\n"
+     "\n"
+     "Status: 0 written; 1 the image is not well formed; 2 bad usage, file trouble, or a file of a wrong length.\n"},
+    {"load", command_load, -1, "FILE IMAGE RAM [PAD] [--replace]", "write the image, the RAM and the pad of a saved machine",
+     "Writes the machine of the saved machine FILE to the files IMAGE, RAM and PAD: all of them or none. Without PAD the\n"
+     "pad has to be zeros, which commands take where no pad is given. Existing files are replaced only with --replace.\n"
+     "\n"
+     "Status: 0 written; 1 the image is not well formed; 2 bad usage, file trouble, a malformed saved machine, RAM of a\n"
+     "length that is not run, or a pad that is not zeros and has no file.\n"},
+    {"make-image", command_make_image, -1, "FILE [--from IMAGE | --from SAVED] [NAME=VALUE ...] [--replace]",
      "write a fresh image, or a changed one",
      "Writes a well-formed image: every register 0 but LZCR, which is 32, and the next PC, which is PC + 4.\n"
-     "With --from the registers are those of IMAGE, and only those that are named change.\n"
+     "With --from the registers are those of IMAGE, or of a saved machine, and only those that are named change.\n"
      "Registers are set by name, in capitals or not:\n"
      "  r1..r31 or at, v0, ..., ra; HI, LO, PC, NEXT_PC, LOAD_REGISTER, LOAD_VALUE, DELAY_SLOT, SR, CAUSE, EPC,\n"
      "  BADV; and the COP2 registers as the command show prints them. Halves have names of their own: VX0, VY0,\n"
@@ -1034,7 +1156,7 @@ static void print_help(void)
     printf("fliskadee COMMAND ...\n\n"
            "Runs machines of the Fliskadee library (an R3000A with its geometry unit, GTE) from files, and looks at\n"
            "them. An image is a file of %d bytes with all registers; a RAM is a file of %d to %d bytes; a scratch pad\n"
-           "is a file of %d bytes, and zeros where no file is given.\n\n",
+           "is a file of %d bytes, and zeros where no file is given; a saved machine is one file with all three.\n\n",
            FLISKADEE_IMAGE_BYTES, RAM_LEAST, FLISKADEE_MOST_RAM, FLISKADEE_PAD_BYTES);
     for (int i = 0; i < COMMANDS; i++)
         printf("  %s %s\n      %s\n", commands[i].name, commands[i].usage, commands[i].summary);
@@ -1042,7 +1164,8 @@ static void print_help(void)
            "Where a file is read or written, - is standard input or output. After -- nothing is an option.\n"
            "No file changes unless a command is asked to write it; a file is replaced whole or not at all.\n"
            "Status: 0 fine; 1 a negative finding (images differ, not well formed, flag not found, run stopped before\n"
-           "an unknown GTE command, no GTE command to explain); 2 bad usage or file trouble.\n");
+           "an unknown GTE command, no GTE command to explain); 2 bad usage or file trouble, as is a malformed saved\n"
+           "machine to every command but check.\n");
 }
 
 static void print_command_help(const struct command *command)
