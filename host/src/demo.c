@@ -2,8 +2,8 @@
 
    The program in RAM loads three vertices from memory, projects them with RTPT and stores the three screen points.
    It is run twice: once with all vertices in front of the viewer, once with one of them too near. With --save FOLDER the
-   two machines are written there before they run, as files for the command-line tool. The scratch pad is lent as zeros, and the
-   program leaves it alone. */
+   two machines are written there before they run, as files for the command-line tool: image, RAM and pad, and all three as one saved
+   machine. The scratch pad is lent as zeros, and the program leaves it alone. */
 #define _POSIX_C_SOURCE 200809L
 
 #include <inttypes.h>
@@ -81,19 +81,24 @@ static void put_machine(uint8_t *image, uint8_t *ram, const int16_t triangle[3][
     }
 }
 
-/* Writes the machine to FOLDER/NAME.image, FOLDER/NAME.ram and FOLDER/NAME.pad, for the command-line tool. */
+/* Writes the machine to FOLDER/NAME.image, FOLDER/NAME.ram, FOLDER/NAME.pad and FOLDER/NAME.saved, for the command-line tool. */
 static bool save_machine(const char *folder, const char *name, const struct fliskadee_lent *lent)
 {
-    static const char *const endings[3] = {"image", "ram", "pad"};
-    const struct bytes bytes[3] = {
-        {lent->image, lent->image_length}, {lent->ram, lent->ram_length}, {lent->pad, lent->pad_length}};
-    char paths[3][4096];
-    struct output outputs[3];
-    for (size_t i = 0; i < 3; i++) {
+    enum { FILES = 4 };
+    static const char *const endings[FILES] = {"image", "ram", "pad", "saved"};
+    static uint8_t saved[FLISKADEE_MOST_SAVED_BYTES];
+    struct fliskadee_answer answer = fliskadee_save_lent(lent, saved, sizeof saved);
+    const struct bytes bytes[FILES] = {{lent->image, lent->image_length},
+                                       {lent->ram, lent->ram_length},
+                                       {lent->pad, lent->pad_length},
+                                       {saved, (size_t)answer.number}};
+    char paths[FILES][4096];
+    struct output outputs[FILES];
+    for (size_t i = 0; i < FILES; i++) {
         snprintf(paths[i], sizeof paths[i], "%s/%s.%s", folder, name, endings[i]);
         outputs[i] = (struct output){paths[i], &bytes[i]};
     }
-    return write_outputs(outputs, 3);
+    return answer.code == FLISKADEE_DONE && write_outputs(outputs, FILES);
 }
 
 static void print_registers(const uint8_t *image)
