@@ -2,8 +2,8 @@
 
    The program in RAM loads three vertices from memory, projects them with RTPT and stores the three screen points.
    It is run twice: once with all vertices in front of the viewer, once with one of them too near. With --save FOLDER the
-   two machines are written there before they run, as files for the command-line tool: image, RAM and pad, and all three as one saved
-   machine. The scratch pad is lent as zeros, and the program leaves it alone. */
+   two machines are written there before they run, as files for the command-line tool: image, RAM and pad, and the three as one
+   saved machine. The scratch pad is lent as zeros, and the program leaves it alone. */
 #define _POSIX_C_SOURCE 200809L
 
 #include <inttypes.h>

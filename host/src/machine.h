@@ -62,15 +62,15 @@ bool was_run(struct outcome outcome);
 /* The library's answer in words, and the status that goes with it; what is trouble goes to stderr. */
 int print_answer(struct outcome outcome, const struct machine *machine);
 
-/* A refusal for an image, a RAM or a pad in the same way; nothing was run, or nothing was written. */
+/* A refusal of an image, a RAM or a pad in the same way: nothing was `done`, which is "run" or "written". */
 int print_refusal(unsigned code, const struct machine *machine, const char *done);
 
-/* The machine as one file, which is made to be written and has to be freed. Answers false, after a complaint, where there is no
-   memory; there is no file with any code but FLISKADEE_DONE. */
+/* The machine as one file, which has to be freed; there is one only with the code FLISKADEE_DONE. Where there is no memory, it
+   complains and answers false. */
 bool save_machine(const struct machine *machine, struct bytes *file, unsigned *code);
 
-/* Loads the machine of such a file, by the library's answer. RAM of a length that the library refuses is lent as RAM_LEAST bytes, so
-   that it judges the file. */
+/* Loads the machine of such a file into one that make_machine made, and answers what the library answers. Of a RAM whose length it
+   would refuse RAM_LEAST bytes are lent, so that it judges the file all the same. */
 struct fliskadee_answer load_machine(struct machine *machine, const struct bytes *file);
 
 /* Where the word at a virtual address is, if loads and stores reach one there. */

@@ -124,8 +124,8 @@ static bool take_block_length(struct reader *reader, const char *name, size_t *l
     *length = lower | (size_t)reader->file->data[reader->at] << 8;
     if (*length == 0 || *length > FLISKADEE_BLOCK_BYTES)
         return wrong_here(reader,
-                          "it is the upper byte of the length of %s, and with the lower byte %02X it can be %s, as a block has 1 to "
-                          "%d bytes",
+                          "it is the upper byte of the length of %s, and with the lower byte %02X it can be %s, as a block has 1 "
+                          "to %d bytes",
                           name, lower, lower == 0 ? "01 to 80" : "00 to 7F", FLISKADEE_BLOCK_BYTES);
     reader->at++;
     return true;
@@ -208,8 +208,8 @@ bool open_saved(const struct bytes *file, struct saved_form *form, struct machin
     size_t place = form->malformed ? form->place : 0;
     bool agreed = answer.code == expected && answer.number == place;
     if (!agreed)
-        complain("DISAGREEMENT: this tool expects code %u and number %zu for the saved machine, but the library answers code %" PRIu64
-                 " and number %" PRIu64 ". One of the two is wrong; please report it.",
+        complain("DISAGREEMENT: this tool expects code %u and number %zu for the saved machine, but the library answers code "
+                 "%" PRIu64 " and number %" PRIu64 ". One of the two is wrong; please report it.",
                  expected, place, answer.code, answer.number);
     if (!agreed || form->malformed)
         free_machine(machine);

@@ -1,5 +1,5 @@
-/* The command-line tool: run machines, look at them, compare them, save and load them, find the step that set a flag, and say why it
-   did. */
+/* The command-line tool: run machines, look at them, compare them, save and load them, find the step that set a flag, and say why
+   it did. */
 #define _POSIX_C_SOURCE 200809L
 
 #include <inttypes.h>
@@ -227,13 +227,14 @@ static bool all_zeros(const struct bytes *bytes)
 
 static int check_well_formed(const struct saved_form *form, const struct machine *machine)
 {
-    printf("The saved machine is well formed: %zu bytes of RAM in %zu block%s, and a pad %s.\n", form->ram, form->blocks,
-           form->blocks == 1 ? "" : "s", all_zeros(&machine->pad) ? "of zeros" : "that is not zeros");
+    printf("The saved machine is well formed: %zu byte%s of RAM in %zu block%s, and a pad %s.\n", form->ram,
+           form->ram == 1 ? "" : "s", form->blocks, form->blocks == 1 ? "" : "s",
+           all_zeros(&machine->pad) ? "of zeros" : "that is not zeros");
     int status = check_words(&machine->image);
     if (is_ram_length(form->ram))
         return status;
-    printf("No machine is run with %zu bytes of RAM, which has a multiple of 4 from %d to %d.\n", form->ram, RAM_LEAST,
-           FLISKADEE_MOST_RAM);
+    printf("No machine is run with %zu byte%s of RAM: the length is a multiple of 4 from %d to %d.\n", form->ram,
+           form->ram == 1 ? "" : "s", RAM_LEAST, FLISKADEE_MOST_RAM);
     return status == STATUS_FINE ? STATUS_FINDING : status;
 }
 
@@ -943,16 +944,16 @@ static int command_save(int count, char **arguments)
 static int write_loaded(unsigned code, const char *path, const struct machine *machine, const struct output outputs[3])
 {
     if (code == FLISKADEE_REFUSED_SPACE) {
-        complain("%s is a well-formed saved machine, but no machine is run with %zu bytes of RAM, which has a multiple of 4 from %d to "
-                 "%d; nothing was written.",
-                 input_name(path), machine->ram.length, RAM_LEAST, FLISKADEE_MOST_RAM);
+        complain("%s is a well-formed saved machine, but no machine is run with %zu byte%s of RAM: the length is a multiple of 4 "
+                 "from %d to %d. Nothing was written.",
+                 input_name(path), machine->ram.length, machine->ram.length == 1 ? "" : "s", RAM_LEAST, FLISKADEE_MOST_RAM);
         return STATUS_TROUBLE;
     }
     if (code != FLISKADEE_DONE)
         return print_refusal(code, machine, "written");
     if (outputs[2].path == NULL && !all_zeros(&machine->pad)) {
-        complain("the pad of %s is not zeros, which commands take where no pad is given; name a file for it after that of the RAM. "
-                 "Nothing was written.",
+        complain("the pad of %s is not zeros, which commands take where no pad is given; name a file for it after that of the "
+                 "RAM. Nothing was written.",
                  input_name(path));
         return STATUS_TROUBLE;
     }
