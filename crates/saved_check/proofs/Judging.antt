@@ -9,11 +9,10 @@ use lib.Dec.{eqb}
 use lib.ListN.{length, getD, drop, drop-of-length-le}
 use lib.Seq.{getD-drop, drop-cons}
 use borrow.Author.Tests.{eqb-true, eq-eqb}
-use Rattle.saved_format.specs.Format.{Share, nothing, Longest, MalformedFile}
+use Rattle.saved_format.specs.Format.{Longest, MalformedFile}
 use Rattle.saved_format.specs.Tails.{Field, Cut, Nothing, Pad, Ram, Next, Block, File}
-use Rattle.saved_format.proofs.Sharing.{share-length}
 use Rattle.saved_format.proofs.Fields.{past-is, past-not, past-longest, cut-not, cut-longest}
-use Rattle.saved_format.proofs.Tails.{some-pad, to-ram, of-ram, Apart, longest-left, longest-right, more-apart, pad-apart}
+use Rattle.saved_format.proofs.Tails.{cons-not, longest-nothing, some-pad, to-ram, of-ram, Apart, longest-left, longest-right, more-apart, pad-apart}
 use Rattle.saved_format.proofs.Whole.{from-file, malformed-by}
 use Rattle.saved_check.specs.Check.{Stands, FieldAt, Judged, Checked}
 use Rattle.saved_check.specs.declared.Verdict.{Verdict}
@@ -73,17 +72,6 @@ whole-judged f (verdict.Malformed n) j =
 pub nothing-formed : (f : List ℕ) (at : ℕ) → length f ≤ at → Judged Nothing f at verdict.Formed
 unfolding Judged
 nothing-formed f at h = drop-of-length-le f h
-
-cons-not : (x : ℕ) (l : List ℕ) → Nothing (x ∷ l) → ⊥
-cons-not x l e = let z : _≡_ {A = ℕ} 0 1 = cc e in omega arith
-
-share-nothing : (l g : List ℕ) (k : ℕ) → g ≡ [] → Share l g k → k ≤ 0
-share-nothing l (y ∷ g) k e s = absurd (cons-not y g e)
-share-nothing [] [] k e s = share-length s
-share-nothing (x ∷ l) [] k e nothing = omega arith
-
-longest-nothing : (l : List ℕ) → Longest Nothing l 0
-longest-nothing l = record { reached = ([], refl, nothing); most = share-nothing l }
 
 pub nothing-malformed : (f : List ℕ) (at : ℕ) → at < length f → Judged Nothing f at (verdict.Malformed at)
 unfolding Judged

@@ -15,7 +15,7 @@ pub enum Verdict {
 }
 
 // A field at a place: the place past it, or how far the file can be read as a well-formed one.
-pub enum Step {
+pub(crate) enum Step {
     Past(usize),
     Stop(usize),
 }

@@ -10,6 +10,8 @@ use Rattle.saved_format.specs.Theorems.{CutShort, BytesBehind}
 use Rattle.saved_format.proofs.Sharing.{share-length, share-same, share-inv}
 use Rattle.saved_format.proofs.Fields.{field-once}
 use Rattle.saved_format.proofs.Blocks.{blocks-once}
+use Rattle.saved_format.proofs.Tails.{cons-not}
+use Rattle.saved_format.proofs.Deciding.{le-or-lt}
 
 -- the fields of a file, with what stands behind it
 spread : (a b c d e t : List ℕ) → (a ++ (b ++ (c ++ (d ++ e)))) ++ t ≡ a ++ (b ++ (c ++ (d ++ (e ++ t))))
@@ -31,19 +33,11 @@ cut-short f t w h = (
   record { reached = (f ++ t, w, share-same f t); most = λ g k v s. share-length s },
 )
 
-le-or-lt : (k n : ℕ) → (k ≤ n) ⊎ (n < k)
-le-or-lt zero n = inl (omega arith)
-le-or-lt (suc k) zero = inr (omega arith)
-le-or-lt (suc k) (suc n) = ⊎-elim (λ h. inl (omega arith)) (λ h. inr (omega arith)) (le-or-lt k n)
-
 -- a list that shares more than f with f and what follows it begins with f, and has more
 record Beyond (f g : List ℕ) : Type 0 where
   more : List ℕ
   is : g ≡ f ++ more
   some : more ≡ [] → ⊥
-
-cons-not : (x : ℕ) (l : List ℕ) → x ∷ l ≡ [] → ⊥
-cons-not x l e = let z : _≡_ {A = ℕ} 0 1 = cc e in omega arith
 
 front : {x : ℕ} {l g : List ℕ} {k : ℕ} → Share (x ∷ l) g (suc k) → (h : List ℕ) × (g ≡ x ∷ h) × Share l h k
 front (byte {g = h} s) = (h, refl, s)

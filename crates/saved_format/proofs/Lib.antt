@@ -1,3 +1,4 @@
+pub mod Deciding
 pub mod Sharing
 pub mod Bytes
 pub mod Fields
@@ -8,3 +9,4 @@ pub mod Blocks
 pub mod Theorems
 pub mod Ends
 pub mod Examples
+pub mod Every

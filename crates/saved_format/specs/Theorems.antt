@@ -1,5 +1,6 @@
 -- What is proved of the file of a saved machine (02, Ticket 3).
 use mathlib.Core.List.{List, [], _∷_, _++_}
+use mathlib.Core.Logic.{_⊎_}
 use mathlib.Core.Path.{_≡_}
 use Prim.Native.Nat.{ℕ, _+_, _*_, _<_}
 use lib.ListN.{length}
@@ -25,6 +26,11 @@ Long = (f : List ℕ) (m : Machine) → Means f m → length f ≡ fileLength (l
 
 -- ---- the number of refusal 7
 
+-- every file is well formed, or malformed with some number
+abbrev pub EveryFile : Type 0
+EveryFile = (f : List ℕ) → Bytes f → WellFormedFile f ⊎ ((n : ℕ) × MalformedFile f n)
+
+-- and with no other one
 abbrev pub OneNumber : Type 0
 OneNumber = (f : List ℕ) (a b : ℕ) → MalformedFile f a → MalformedFile f b → a ≡ b
 

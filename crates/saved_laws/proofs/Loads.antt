@@ -1,6 +1,7 @@
 -- What the outcome of a load tells.
 use mathlib.Core.Bool.{Bool, true, false, cond}
 use mathlib.Core.List.{List, [], _∷_, _++_}
+use mathlib.Core.Logic.{⊎-elim}
 use mathlib.Core.Path.{_≡_, refl, ap, sym, _∙_}
 use Prim.Native.Nat.{ℕ}
 use native.Mathlib.Omega.{arith}
@@ -15,10 +16,12 @@ use Rattle.image.specs.Formed.{wellFormed}
 use Rattle.image.specs.Refusals.{_else_, firstOf}
 use Rattle.image.proofs.Refusals.{all-pass, admitted}
 use Rattle.saved_format.specs.Format.{Machine, Means}
+use Rattle.saved_format.proofs.Deciding.{same-or-not}
 use Rattle.saved_format.proofs.Theorems.{one-meaning, one-number}
+use Rattle.saved_format.proofs.Every.{every-file}
 use Rattle.saved.specs.Refusals.{lengthTests, lengthCode, lentCode}
 use Rattle.saved.specs.Load.{Loaded, loaded, imageOf, loadCode, loadOf, Loads, lengths, malformed, means}
-use Rattle.saved_laws.specs.Calls.{OneOutcome, LoadTold, LoadTells, LoadedRuns}
+use Rattle.saved_laws.specs.Calls.{OneOutcome, Outcome, EveryLoad, LoadTold, LoadTells, LoadedRuns}
 
 -- ---- one outcome
 pub one-outcome : OneOutcome
@@ -31,6 +34,20 @@ one-outcome file image ram pad a b (malformed h m v e) (means k n w g) = absurd 
 one-outcome file image ram pad a b (means h m v e) (lengths k g) = absurd (k h)
 one-outcome file image ram pad a b (means h m v e) (malformed k n w g) = absurd (w .0 (m, v))
 one-outcome file image ram pad a b (means h m v e) (means k n w g) = e ∙ ap (λ (x : Machine). loadOf x image ram pad) (one-meaning file m n v w) ∙ sym g
+
+-- ---- and there is one
+pub outcome-of : (file image ram pad : List ℕ) (o : Loaded) → Loads file image ram pad o → Outcome file image ram pad o
+outcome-of file image ram pad o l = record { is = l; only = λ a k. one-outcome file image ram pad a o k l }
+
+pub every-load : EveryLoad
+every-load file image ram pad b =
+    ⊎-elim
+    (λ z. ⊎-elim
+    (λ w. (loadOf (w .0) image ram pad, outcome-of file image ram pad _ (means z (w .0) (w .1) refl)))
+    (λ w. (loaded 7 (w .0) image ram pad, outcome-of file image ram pad _ (malformed z (w .0) (w .1) refl)))
+    (every-file file b))
+    (λ h. (loaded (lentCode image ram pad) 0 image ram pad, outcome-of file image ram pad _ (lengths h refl)))
+    (same-or-not (lentCode image ram pad) 0)
 
 -- ---- a load that is not refused
 pub record Took (file image ram pad : List ℕ) (o : Loaded) : Type 0 where

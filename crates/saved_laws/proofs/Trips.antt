@@ -24,7 +24,7 @@ use Rattle.saved.proofs.Words.{bytes-of-append, words-part, rows}
 use Rattle.saved.proofs.Calls.{lent}
 use Rattle.saved_laws.specs.Calls.{Outcome, Back, Again, SameFile}
 use Rattle.saved_laws.proofs.Saves.{done, sized}
-use Rattle.saved_laws.proofs.Loads.{one-outcome, Took, took, image-long}
+use Rattle.saved_laws.proofs.Loads.{outcome-of, Took, took, image-long}
 
 -- ---- writing then reading
 image-back : (image ram pad : List ℕ) → Bytes image → length image ≡ 432 → imageOf (machineIn image ram pad) ≡ image
@@ -53,7 +53,7 @@ back image ram pad space image′ ram′ pad′ a b c z e g h =
     let o : loaded 0 0 image ram pad ≡ loadOf m image′ ram′ pad′ =
     ap (λ (x : List ℕ). loaded 0 0 x ram pad) (sym i) ∙ loads m image′ ram′ pad′ (rw i (d .formed)) (sym g) in
     let r : Loads (fileOf m) image′ ram′ pad′ (loaded 0 0 image ram pad) = means (rw (e, g, h) (d .lengths)) m s o in
-    rw f (record { is = r; only = λ x y. one-outcome (fileOf m) image′ ram′ pad′ x (loaded 0 0 image ram pad) y r })
+    rw f (outcome-of (fileOf m) image′ ram′ pad′ (loaded 0 0 image ram pad) r)
 
 -- ---- reading then writing
 machine-back : (file : List ℕ) (m : Machine) → Means file m → machineIn (imageOf m) (m .ram) (m .pad) ≡ m

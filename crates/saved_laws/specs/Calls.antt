@@ -11,7 +11,7 @@ use Rattle.saved_format.specs.Format.{Bytes}
 use Rattle.saved.specs.Save.{Saved, saved, saveCode, saveOf}
 use Rattle.saved.specs.Load.{Loaded, loaded, Loads}
 
--- a load has one outcome: its code, its number and what the buffers then hold are determined, for every file and all buffers
+-- a load has no two outcomes
 abbrev pub OneOutcome : Type 0
 OneOutcome = (file image ram pad : List ℕ) (a b : Loaded) → Loads file image ram pad a → Loads file image ram pad b → a ≡ b
 
@@ -19,6 +19,10 @@ OneOutcome = (file image ram pad : List ℕ) (a b : Loaded) → Loads file image
 pub record Outcome (file image ram pad : List ℕ) (o : Loaded) : Type 0 where
   pub is : Loads file image ram pad o
   pub only : (a : Loaded) → Loads file image ram pad a → a ≡ o
+
+-- the answer of a load is determined: for every file and all buffers there is one code, one number and one content of the buffers afterwards
+abbrev pub EveryLoad : Type 0
+EveryLoad = (file image ram pad : List ℕ) → Bytes file → (o : Loaded) × Outcome file image ram pad o
 
 -- writing then reading: a load of what a save wrote, into buffers of the same lengths, gives back image, RAM and pad
 abbrev pub Back : Type 0
