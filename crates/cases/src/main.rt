@@ -18,392 +18,43 @@
 //   o  a save with so many bytes of the file for its space: it answers code and number
 //   u  a load of so many bytes of the file: it answers code and number
 //   b  a place in the file, and its byte            y  a place in the file, and what the word there is to be
-ghost use Prim.Native.Nat.{_<_};
-use answer::Answer;
-use gte::Outcome;
+mod bytes;
+mod calls;
+mod lines;
+mod state;
+mod tally;
 
-// What has been counted, and whether the case that runs has had no difference so far.
-struct Tally {
-    cases: u64,
-    values: u64,
-    differ: u64,
-    clean: bool,
-}
-
-// What goes by value of a case. before: a digest of image, RAM, pad and file before the last run, search, save or load.
-struct Case {
-    image_length: usize,
-    ram_length: usize,
-    pad_length: usize,
-    high: u32,
-    answer: u64,
-    before: u64,
-    tally: Tally,
-}
-
-// One more, up to a million.
-fn more(n: u64) -> u64 {
-    if n < 1_000_000 { n + 1 } else { n }
-}
-
-// ---- lines
-
-fn byte_at(buf: &[u8; 65520], i: usize) -> u8 {
-    buf[i % 65520]
-}
-
-fn wide(b: u8) -> u32 {
-    b as u32
-}
-
-// The value of a digit; 0 for any other byte.
-fn digit(b: u8) -> u32
-    ensures { λ r. ⌜ r < 16 ⌝ }
-{
-    let d = wide(b);
-    if d < 48 {
-        0
-    } else if d < 58 {
-        d - 48
-    } else if d < 97 {
-        0
-    } else if d < 103 {
-        d - 87
-    } else {
-        0
-    }
-}
-
-// The number whose eight digits begin at `at`.
-fn number_at(buf: &[u8; 65520], at: usize) -> u32 {
-    let start = at % 65520;
-    let mut x: u32 = 0;
-    let mut i: usize = 0;
-    while i < 8 {
-        x = x % 0x1000_0000 * 16 + digit(byte_at(buf, start + i));
-        i += 1;
-    }
-    x
-}
-
-// The 17 bytes from `start` go out, where there are so many.
-fn print_name(s: &[u8], start: usize) {
-    let n = s.len();
-    if n < 17 {
-        return;
-    }
-    if n - 17 < start {
-        return;
-    }
-    let end = start + 17;
-    io::write_all(1, &s[start..end]);
-}
-
-// The end of a case's line.
-fn end_case(t: Tally) {
-    if t.cases == 0 {
-        return;
-    }
-    if t.clean {
-        io::write_all(1, b" ok");
-    }
-    io::write_all(1, b"\n");
-}
-
-// A line about a difference: what was looked at, what was found, what was expected.
-fn print_difference(what: u32, found: u64, expected: u64) {
-    io::write_all(1, b"\n  ");
-    io::print_hex(1, what as u64, 8);
-    io::write_all(1, b": ");
-    io::print_hex(1, found, 16);
-    io::write_all(1, b", expected ");
-    io::print_hex(1, expected, 16);
-}
-
-// One more value is compared.
-fn compare(t: Tally, what: u32, found: u64, expected: u64) -> Tally {
-    if found == expected {
-        return Tally {
-            cases: t.cases,
-            values: more(t.values),
-            differ: t.differ,
-            clean: t.clean,
-        };
-    }
-    print_difference(what, found, expected);
-    Tally {
-        cases: t.cases,
-        values: more(t.values),
-        differ: more(t.differ),
-        clean: false,
-    }
-}
-
-// ---- words in bytes that may be too few
-
-fn put(m: &mut [u8], at: usize, v: u32) {
-    let n = m.len();
-    if n < 4 {
-        return;
-    }
-    if n - 4 < at {
-        return;
-    }
-    byte_order::put_word(m, at, v);
-}
-
-fn word(m: &[u8], at: usize) -> u32 {
-    let n = m.len();
-    if n < 4 {
-        return 0;
-    }
-    if n - 4 < at {
-        return 0;
-    }
-    byte_order::word_at(m, at)
-}
-
-// A byte at a place, where there is one.
-fn put_byte(m: &mut [u8], at: usize, v: u32) {
-    if at < m.len() {
-        m[at] = (v % 256) as u8;
-    }
-}
-
-// A number that a changed byte changes: each byte has its own weight among the last ones, and all of them are mixed in.
-fn digest(m: &[u8], first: u64) -> u64 {
-    let n = m.len();
-    let mut d = first;
-    let mut i: usize = 0;
-    while i < n {
-        d = mix(d, wide(m[i]));
-        i += 1;
-    }
-    d
-}
-
-fn mix(d: u64, b: u32) -> u64 {
-    (d % 0x1_0000_0000_0000) * 257 + d / 0x1_0000_0000_0000 + b as u64 + 1
-}
-
-// ---- what a line asks for
-
-fn join(high: u32, low: u32) -> u64 {
-    (high as u64) * 0x1_0000_0000 + low as u64
-}
-
-// A run over the first bytes of image, RAM and pad; all ones where there are not so many.
-fn run(image: &mut [u8], ram: &mut [u8], pad: &mut [u8], x: Case, count: u64) -> u64 {
-    let i = x.image_length;
-    let m = x.ram_length;
-    let n = x.pad_length;
-    if image.len() < i {
-        return 0xffff_ffff_ffff_ffff;
-    }
-    if ram.len() < m {
-        return 0xffff_ffff_ffff_ffff;
-    }
-    if pad.len() < n {
-        return 0xffff_ffff_ffff_ffff;
-    }
-    fliskadee::fliskadee_run(&mut image[0..i], &mut ram[0..m], &mut pad[0..n], count)
-}
-
-// A search, in the same way.
-fn find(image: &mut [u8], ram: &mut [u8], pad: &mut [u8], x: Case, count: u64, mask: u32) -> u64 {
-    let i = x.image_length;
-    let m = x.ram_length;
-    let n = x.pad_length;
-    if image.len() < i {
-        return 0xffff_ffff_ffff_ffff;
-    }
-    if ram.len() < m {
-        return 0xffff_ffff_ffff_ffff;
-    }
-    if pad.len() < n {
-        return 0xffff_ffff_ffff_ffff;
-    }
-    fliskadee::fliskadee_find_flag(
-        &mut image[0..i],
-        &mut ram[0..m],
-        &mut pad[0..n],
-        count,
-        mask,
-    )
-}
-
-fn window(ram: &[u8], pad: &[u8], x: Case, address: u32, length: u32) -> u64 {
-    let m = x.ram_length;
-    let n = x.pad_length;
-    if ram.len() < m {
-        return 0xffff_ffff_ffff_ffff;
-    }
-    if pad.len() < n {
-        return 0xffff_ffff_ffff_ffff;
-    }
-    fliskadee::fliskadee_window(&ram[0..m], &pad[0..n], address, length as u64)
-}
-
-// What a part of RAM or pad holds: its length, its last byte and its first; 0 where it is empty.
-fn ends(part: &[u8]) -> u64 {
-    let n = part.len();
-    if n == 0 {
-        return 0;
-    }
-    let last = wide(part[n - 1]) as u64;
-    let first = wide(part[0]) as u64;
-    (n % 0x100_0000) as u64 * 0x1_0000_0000 + last * 0x100 + first
-}
-
-// The window as the part of RAM or pad itself, which no call from C can return.
-fn part<'a>(ram: &'a [u8], pad: &'a [u8], x: Case, address: u32, length: u32) -> u64 {
-    let m = x.ram_length;
-    let n = x.pad_length;
-    if ram.len() < m {
-        return 0xffff_ffff_ffff_ffff;
-    }
-    if pad.len() < n {
-        return 0xffff_ffff_ffff_ffff;
-    }
-    ends(window::window(
-        &ram[0..m],
-        &pad[0..n],
-        memory::addresses::Virt(address),
-        length as usize,
-    ))
-}
-
-// The 600 words go to the beginning of RAM.
-fn put_words(ram: &mut [u8], words: &[u32; 600]) {
-    let mut i: usize = 0;
-    while i < 600 {
-        put(ram, i * 4, words[i]);
-        i += 1;
-    }
-}
-
-// The causes of a command with so many words lent: the code, and the number.
-fn causes(image: &[u8], ram: &mut [u8], image_length: usize, word: u32, space: usize) -> u64 {
-    if image.len() < image_length {
-        return 0xffff_ffff_ffff_ffff;
-    }
-    if 600 < space {
-        return 0xffff_ffff_ffff_ffff;
-    }
-    let mut words = [0xeeee_eeeeu32; 600];
-    let a = fliskadee::fliskadee_causes(&image[0..image_length], word, &mut words[0..space]);
-    put_words(ram, &words);
-    both(a)
-}
-
-// A code and a number as one: the number in the low 32 bits.
-fn both(a: Answer) -> u64 {
-    a.code % 0x100 * 0x1_0000_0000 + a.number % 0x1_0000_0000
-}
-
-// The machine saved to the first bytes of the file.
-fn save(image: &[u8], ram: &[u8], pad: &[u8], file: &mut [u8], x: Case, space: usize) -> u64 {
-    let i = x.image_length;
-    let m = x.ram_length;
-    let n = x.pad_length;
-    if image.len() < i {
-        return 0xffff_ffff_ffff_ffff;
-    }
-    if ram.len() < m {
-        return 0xffff_ffff_ffff_ffff;
-    }
-    if pad.len() < n {
-        return 0xffff_ffff_ffff_ffff;
-    }
-    if file.len() < space {
-        return 0xffff_ffff_ffff_ffff;
-    }
-    both(fliskadee::fliskadee_save(&image[0..i], &ram[0..m], &pad[0..n], &mut file[0..space]))
-}
-
-// The machine loaded from the first bytes of the file.
-fn load(
-    image: &mut [u8],
-    ram: &mut [u8],
-    pad: &mut [u8],
-    file: &[u8],
-    x: Case,
-    length: usize,
-) -> u64 {
-    let i = x.image_length;
-    let m = x.ram_length;
-    let n = x.pad_length;
-    if image.len() < i {
-        return 0xffff_ffff_ffff_ffff;
-    }
-    if ram.len() < m {
-        return 0xffff_ffff_ffff_ffff;
-    }
-    if pad.len() < n {
-        return 0xffff_ffff_ffff_ffff;
-    }
-    if file.len() < length {
-        return 0xffff_ffff_ffff_ffff;
-    }
-    both(fliskadee::fliskadee_load(
-        &file[0..length],
-        &mut image[0..i],
-        &mut ram[0..m],
-        &mut pad[0..n],
-    ))
-}
-
-// A command is carried out: 0, or 1 where it is not listed.
-fn outcome(g: &mut [u32; 64], word: u32) -> u64 {
-    match gte::command(g, word) {
-        Outcome::Done => 0,
-        Outcome::Unlisted => 1,
-    }
-}
-
-// ---- the case with one thing changed
-
-fn with_image_length(x: Case, n: u32) -> Case {
-    let mut y = x;
-    y.image_length = n as usize;
-    y
-}
-
-fn with_ram_length(x: Case, n: u32) -> Case {
-    let mut y = x;
-    y.ram_length = n as usize;
-    y
-}
-
-fn with_pad_length(x: Case, n: u32) -> Case {
-    let mut y = x;
-    y.pad_length = n as usize;
-    y
-}
-
-fn with_high(x: Case, n: u32) -> Case {
-    let mut y = x;
-    y.high = n;
-    y
-}
-
-fn with_answer(x: Case, n: u64) -> Case {
-    let mut y = x;
-    y.answer = n;
-    y
-}
-
-fn counted(x: Case, t: Tally) -> Case {
-    Case {
-        image_length: x.image_length,
-        ram_length: x.ram_length,
-        pad_length: x.pad_length,
-        high: x.high,
-        answer: x.answer,
-        before: x.before,
-        tally: t,
-    }
-}
+use crate::bytes::digest;
+use crate::bytes::put;
+use crate::bytes::put_byte;
+use crate::bytes::word;
+use crate::calls::causes;
+use crate::calls::find;
+use crate::calls::join;
+use crate::calls::load;
+use crate::calls::outcome;
+use crate::calls::part;
+use crate::calls::run;
+use crate::calls::save;
+use crate::calls::window;
+use crate::lines::byte_at;
+use crate::lines::number_at;
+use crate::lines::print_name;
+use crate::lines::wide;
+use crate::state::Case;
+use crate::state::counted;
+use crate::state::nothing;
+use crate::state::with_answer;
+use crate::state::with_before;
+use crate::state::with_high;
+use crate::state::with_image_length;
+use crate::state::with_pad_length;
+use crate::state::with_ram_length;
+use crate::tally::Tally;
+use crate::tally::compare;
+use crate::tally::end_case;
+use crate::tally::more;
+use crate::tally::print_tally;
 
 // A case begins.
 fn begin_case(
@@ -524,12 +175,6 @@ fn check_line(
     }
 }
 
-fn with_before(x: Case, n: u64) -> Case {
-    let mut y = x;
-    y.before = n;
-    y
-}
-
 fn all(image: &[u8; 512], ram: &[u8; 2097160], pad: &[u8; 2048], file: &[u8; 36000]) -> u64 {
     digest(file, digest(pad, digest(ram, digest(image, 0))))
 }
@@ -604,34 +249,6 @@ fn block(
         k += 1;
     }
     x
-}
-
-// The last line: how many cases, how many values, how many differ.
-fn print_tally(t: Tally) {
-    io::print_decimal(1, t.cases);
-    io::write_all(1, b" cases, ");
-    io::print_decimal(1, t.values);
-    io::write_all(1, b" values compared, ");
-    io::print_decimal(1, t.differ);
-    io::write_all(1, b" differ\n");
-}
-
-// Before the first case.
-fn nothing() -> Case {
-    Case {
-        image_length: 0,
-        ram_length: 0,
-        pad_length: 0,
-        high: 0,
-        answer: 0,
-        before: 0,
-        tally: Tally {
-            cases: 0,
-            values: 0,
-            differ: 0,
-            clean: true,
-        },
-    }
 }
 
 fn read_block(buf: &mut [u8; 65520]) -> usize {

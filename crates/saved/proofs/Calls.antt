@@ -1,5 +1,5 @@
 -- The two calls: one law for each of their answers.
-use mathlib.Core.Bool.{Bool, true, false, cond, _&&_, and-eq-true-iff}
+use mathlib.Core.Bool.{Bool, true, false, cond, and-eq-true-iff}
 use mathlib.Core.List.{List, [], _∷_, _++_}
 use mathlib.Core.Path.{_≡_, refl, ap, sym, _∙_}
 use Prim.Native.Nat.{ℕ, _%_, _<_, _≤_}
@@ -19,7 +19,7 @@ use Rattle.saved_check.specs.Check.{Checked}
 use Rattle.saved_check.specs.declared.Verdict.{Verdict}
 use Rattle.saved_check.specs.declared.Verdict.the-variants as verdict
 use Rattle.saved.specs.Refusals.{lengthTests, lengthCode, lentCode}
-use Rattle.saved.specs.Save.{machineIn, saved, saveCode, filed, saveOf}
+use Rattle.saved.specs.Save.{machineIn, saved, saveCode, stored, saveOf}
 use Rattle.saved.specs.Load.{loaded, imageOf, loadCode, loadOf, Loads, lengths}
 use Rattle.saved.specs.Parts.{fieldsOf, imageIn, padIn}
 use Rattle.saved.proofs.Places.{registers-are, control-is, geometry-is, image-is, ram-is, pad-is, same-ram, other-ram, fields-are, file-long, over}
@@ -86,7 +86,7 @@ module _ (image ram pad space : List ℕ) (code : ℕ) (is : code ≡ lentCode i
         unfolding firstOf
         fine = rw (by-lengths, eq-eqb code 0 none, ← test, formed, long, le-leb _ _ fits)
 
-        pub save-accepted : filed (machineIn image ram pad) space ≡ saveOf image ram pad space
+        pub save-accepted : stored (machineIn image ram pad) space ≡ saveOf image ram pad space
         unfolding saveOf
         save-accepted = rw fine
 

@@ -24,9 +24,6 @@ content : (tag at : ℕ) (f c t : List ℕ) → drop at f ≡ field tag c ++ t �
 content tag at f c t e = sym (drop-drop 3 at f) ∙ ap (drop 3) e
 
 module _ (f : List ℕ) (m : Machine) (s : Means f m) where
-  ending : List ℕ
-  ending = field 4 (m .pad) ++ field 0 []
-
   at-control : drop 3 f ≡ s .control ++ (field 2 (s .geometry) ++ (s .blocks ++ (field 4 (m .pad) ++ field 0 [])))
   at-control = ap (drop 3) (s .fields)
 

@@ -29,10 +29,10 @@ saveCode image ram pad space =
     firstOf (lengthTests (length image) (length ram) (length pad) ((wellFormed image else 2) ∷ (leb (length (fileOf (machineIn image ram pad))) (length space) else 8) ∷ []))
 
 -- the file at the front of the space, the rest as it was, and the bytes used
-abbrev pub filed : Machine → List ℕ → Saved
-filed m space = saved 0 (length (fileOf m)) (fileOf m ++ drop (length (fileOf m)) space)
+abbrev pub stored : Machine → List ℕ → Saved
+stored m space = saved 0 (length (fileOf m)) (fileOf m ++ drop (length (fileOf m)) space)
 
 -- refused: nothing is written, and the number is 0
 unfoldable pub saveOf : List ℕ → List ℕ → List ℕ → List ℕ → Saved
 saveOf image ram pad space =
-    cond (eqb (saveCode image ram pad space) 0) (filed (machineIn image ram pad) space) (saved (saveCode image ram pad space) 0 space)
+    cond (eqb (saveCode image ram pad space) 0) (stored (machineIn image ram pad) space) (saved (saveCode image ram pad space) 0 space)

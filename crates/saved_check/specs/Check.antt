@@ -1,10 +1,10 @@
--- What a check of a file answers (Ticket 3, refusal 7).
+-- What a check of a file answers (02, Ticket 3, refusal 7).
 use mathlib.Core.List.{List, _++_}
 use mathlib.Core.Path.{_≡_}
 use Prim.Native.Nat.{ℕ, _+_, _%_, _≤_}
 use lib.ListN.{length, drop}
-use Rattle.saved_format.specs.Format.{field, WellFormedFile, Longest, MalformedFile}
-use Rattle.saved_format.specs.Tails.{Content, Cut}
+use Rattle.saved_format.specs.Format.{field, WellFormedFile, MalformedFile}
+use Rattle.saved_format.specs.Tails.{Content, Cut, Stops}
 use Rattle.saved_check.specs.declared.Verdict.{Verdict}
 use Rattle.saved_check.specs.declared.Verdict.the-variants as verdict
 use Rattle.saved_check.specs.declared.Step.{Step}
@@ -38,4 +38,4 @@ FieldAt tag low high f at (Stop n) = (k : ℕ) × (n ≡ at + k) × Cut tag low 
 -- the verdict is true of what stands from a place on, where well formed means P
 unfoldable pub Judged : (List ℕ → Type 0) → List ℕ → ℕ → Verdict → Type 0
 Judged P f at verdict.Formed = P (drop at f)
-Judged P f at (verdict.Malformed n) = (P (drop at f) → ⊥) × (k : ℕ) × (n ≡ at + k) × Longest P (drop at f) k
+Judged P f at (verdict.Malformed n) = (k : ℕ) × (n ≡ at + k) × Stops P (drop at f) k

@@ -1,13 +1,13 @@
 -- A well-formed file with bytes behind it is none, and neither is one that is cut.
-use mathlib.Core.List.{List, [], _∷_, _++_, append-nil, append-assoc}
-use mathlib.Core.Logic.{_⊎_, inl, inr, ⊎-elim}
+use mathlib.Core.List.{List, [], _∷_, _++_, append-assoc}
+use mathlib.Core.Logic.{⊎-elim}
 use mathlib.Core.Path.{_≡_, refl, ap, sym, _∙_}
 use Prim.Native.Nat.{ℕ, zero, suc, _<_, _≤_}
 use native.Mathlib.Omega.{arith}
 use lib.ListN.{length}
-use Rattle.saved_format.specs.Format.{field, Machine, Means, WellFormedFile, MalformedFile, Share, nothing, byte}
+use Rattle.saved_format.specs.Format.{field, Machine, Means, WellFormedFile, Share, nothing, byte}
 use Rattle.saved_format.specs.Theorems.{CutShort, BytesBehind}
-use Rattle.saved_format.proofs.Sharing.{share-length, share-same, share-inv}
+use Rattle.saved_format.proofs.Sharing.{share-length, share-same}
 use Rattle.saved_format.proofs.Fields.{field-once}
 use Rattle.saved_format.proofs.Blocks.{blocks-once}
 use Rattle.saved_format.proofs.Tails.{cons-not}

@@ -1,19 +1,19 @@
 -- Every list of bytes is a well-formed file, or a malformed one with its number.
 use mathlib.Core.List.{List, [], _∷_, _++_}
 use mathlib.Core.Logic.{_⊎_, inl, inr, ⊎-elim}
-use mathlib.Core.Path.{_≡_, refl, ap, _∙_}
-use Prim.Native.Nat.{ℕ, zero, suc, _+_, _-_, _*_, _/_, _%_, _<_, _≤_}
+use mathlib.Core.Path.{_≡_, refl, ap}
+use Prim.Native.Nat.{ℕ, zero, suc, _+_, _-_, _*_, _%_, _<_, _≤_}
 use native.Mathlib.Omega.{arith}
 use lib.ListN.{length, getD, take, drop, length-append}
-use Rattle.saved_format.specs.Format.{Bytes, field, WellFormedFile, Longest, MalformedFile}
-use Rattle.saved_format.specs.Tails.{Content, Field, Cut, Nothing, End, Pad, Ram, Next, Block, Geometry, File}
+use Rattle.saved_format.specs.Format.{Bytes, field}
+use Rattle.saved_format.specs.Tails.{Content, Field, Cut, Stops, Nothing, End, Pad, Ram, Next, Block, Geometry, File}
 use Rattle.saved_format.specs.Theorems.{EveryFile}
 use Rattle.saved_format.proofs.Deciding.{le-or-lt, same-or-not}
 use Rattle.saved_format.proofs.Bytes.{bytes-tail, bytes-rest}
-use Rattle.saved_format.proofs.Fields.{past-is, past-not, past-longest, cut-not, cut-longest}
+use Rattle.saved_format.proofs.Fields.{past-is, past-stops, cut-stops}
 use Rattle.saved_format.proofs.Cuts.{cut-none, cut-tag, cut-one, cut-low, cut-two, cut-high, cut-short, past}
-use Rattle.saved_format.proofs.Tails.{cons-not, longest-nothing, some-nothing, some-end, some-pad, some-ram, some-geometry, to-ram, of-ram, longest-left, longest-right, more-apart, pad-apart}
-use Rattle.saved_format.proofs.Whole.{from-file, malformed-by}
+use Rattle.saved_format.proofs.Tails.{nothing-stops, some-nothing, some-end, some-pad, some-ram, some-geometry, to-ram, pad-stops, block-stops, ram-stops}
+use Rattle.saved_format.proofs.Whole.{from-file, file-stops}
 
 -- ---- a field at the front of a list, or where it goes wrong
 pub record Front (tag low high : ℕ) (l : List ℕ) : Type 0 where
@@ -64,20 +64,19 @@ module _ (tag low high : ℕ) (range : low ≤ high) where
   begins (x ∷ m) b =
       ⊎-elim (λ e. rw e (lower m (bytes-tail b))) (λ n. inr (0, cut-tag tag low high x m range n)) (same-or-not x tag)
 
--- ---- a tail, or how much of one is shared
+-- ---- a tail, or where it stops being one
 abbrev Told : (List ℕ → Type 0) → List ℕ → Type 0
-Told P l = P l ⊎ ((k : ℕ) × (P l → ⊥) × Longest P l k)
+Told P l = P l ⊎ ((k : ℕ) × Stops P l k)
 
 field-told : (tag low high : ℕ) (P : ℕ → List ℕ → Type 0) → low ≤ high → ((n : ℕ) → (t : List ℕ) × P n t) → (l : List ℕ) → Bytes l
     → ((c t : List ℕ) → l ≡ field tag c ++ t → Told (P (length c)) t) → Told (Field tag low high P) l
 field-told tag low high P range some l b rest =
     ⊎-elim
-    (λ f. let c = f .content in let t = f .rest in
-    ⊎-elim
-    (λ p. inl (past-is tag low high P l c t (f .fits) (f .is) p))
-    (λ q. inr (suc (suc (suc (length c + q .0))), past-not tag low high P l c t (f .is) (q .1), past-longest tag low high P l c t (q .0) (f .fits) (f .is) (q .2)))
-    (rest c t (f .is)))
-    (λ q. inr (q .0, cut-not tag low high P l (q .0) (q .1), cut-longest tag low high P l (q .0) some (q .1)))
+    (λ f. ⊎-elim
+    (λ p. inl (past-is tag low high P l (f .content) (f .rest) (f .fits) (f .is) p))
+    (λ q. inr (suc (suc (suc (length (f .content) + q .0))), past-stops tag low high P l (f .content) (f .rest) (q .0) (f .fits) (f .is) (q .1)))
+    (rest (f .content) (f .rest) (f .is)))
+    (λ q. inr (q .0, cut-stops tag low high P l (q .0) some (q .1)))
     (begins tag low high range l b)
 
 behind : (tag : ℕ) (l c t : List ℕ) → Bytes l → l ≡ field tag c ++ t → Bytes t
@@ -85,7 +84,7 @@ behind tag l c t b e = bytes-rest tag c t (rw e at b)
 
 nothing-told : (l : List ℕ) → Told Nothing l
 nothing-told [] = inl refl
-nothing-told (x ∷ l) = inr (0, cons-not x l, longest-nothing (x ∷ l))
+nothing-told (x ∷ l) = inr (0, nothing-stops x l)
 
 end-told : (l : List ℕ) → Bytes l → Told End l
 end-told l b = field-told 0 0 0 (λ n. Nothing) (omega arith) (λ n. some-nothing) l b (λ c t e. nothing-told t)
@@ -93,41 +92,17 @@ end-told l b = field-told 0 0 0 (λ n. Nothing) (omega arith) (λ n. some-nothin
 pad-told : (l : List ℕ) → Bytes l → Told Pad l
 pad-told l b = field-told 4 1024 1024 (λ n. End) (omega arith) (λ n. some-end) l b (λ c t e. end-told t (behind 4 l c t b e))
 
--- after a block of n bytes: the pad, unless the block is full and another one begins
-next-pad : (n : ℕ) (t : List ℕ) → (n ≡ 32768 → getD t 0 0 ≡ 3 → ⊥) → Told Pad t → Told (Next n) t
-next-pad n t h p =
-    let a = more-apart n t h in
-    ⊎-elim (λ q. inl (inl q))
-    (λ q. inr (q .0, ⊎-elim (q .1) (a .none), longest-left Pad (λ g. (n ≡ 32768) × Ram g) t (q .0) a (q .2))) p
-
-next-block : (n : ℕ) (t : List ℕ) → n ≡ 32768 → getD t 0 0 ≡ 3 → Told Ram t → Told (Next n) t
-next-block n t e h r =
-    let a = pad-apart t h in
-    ⊎-elim (λ q. inl (inr (e, q)))
-    (λ q. let l = q .2 in
-    inr (
-      q .0,
-      ⊎-elim (a .none) (λ x. q .1 (x .1)),
-      longest-right Pad (λ g. (n ≡ 32768) × Ram g) t (q .0) a
-          (record { reached = (l .reached .0, (e, l .reached .1), l .reached .2); most = λ g k x s. l .most g k (x .1) s }),
-    )) r
-
+-- after a block of n bytes
 next-told : (n : ℕ) (t : List ℕ) → Told Pad t → Told Ram t → Told (Next n) t
 next-told n t p r =
+    let as-pad : (n ≡ 32768 → getD t 0 0 ≡ 3 → ⊥) → Told (Next n) t = λ h. ⊎-elim (λ x. inl (inl x)) (λ q. inr (q .0, pad-stops n t (q .0) h (q .1))) p in
     ⊎-elim
-    (λ e. ⊎-elim (λ h. next-block n t e h r) (λ h. next-pad n t (λ i. h) p) (same-or-not (getD t 0 0) 3))
-    (λ e. next-pad n t (λ i. absurd (e i)) p)
+    (λ e. ⊎-elim (λ h. ⊎-elim (λ x. inl (inr (e, x))) (λ q. inr (q .0, block-stops n t (q .0) e h (q .1))) r) (λ h. as-pad (λ i. h)) (same-or-not (getD t 0 0) 3))
+    (λ e. as-pad (λ i. absurd (e i)))
     (same-or-not n 32768)
 
 block-told : (l : List ℕ) → Told Block l → Told Ram l
-block-told l b =
-    ⊎-elim (λ p. inl (to-ram l p))
-    (λ q. let r = q .2 in
-    inr (
-      q .0,
-      λ x. q .1 (of-ram l x),
-      record { reached = (r .reached .0, to-ram _ (r .reached .1), r .reached .2); most = λ g k x s. r .most g k (of-ram g x) s },
-    )) b
+block-told l b = ⊎-elim (λ p. inl (to-ram l p)) (λ q. inr (q .0, ram-stops l (q .0) (q .1))) b
 
 shorter : (k : ℕ) (l c t : List ℕ) → length l ≤ suc k → l ≡ field 3 c ++ t → length t ≤ k
 shorter k l c t h e = omega (arith, ap length e, length-append c t)
@@ -149,4 +124,4 @@ file-told l b =
     field-told 1 176 176 (λ n. Geometry) (omega arith) (λ n. some-geometry) l b (λ c t e. geometry-told t (behind 1 l c t b e))
 
 pub every-file : EveryFile
-every-file f b = ⊎-elim (λ p. inl (from-file f p)) (λ q. inr (q .0, malformed-by f (q .0) (q .1) (q .2))) (file-told f b)
+every-file f b = ⊎-elim (λ p. inl (from-file f p)) (λ q. inr (q .0, file-stops f (q .0) (q .1))) (file-told f b)

@@ -5,34 +5,26 @@ use mathlib.Core.Path.{_≡_, refl}
 use Prim.Native.Nat.{ℕ, suc, _+_}
 use native.Mathlib.Omega.{arith}
 use lib.ListN.{length}
-use Rattle.saved_format.specs.Format.{field, Longest, MalformedFile}
+use Rattle.saved_format.specs.Format.{field, MalformedFile}
 use Rattle.saved_format.specs.Tails.{Content, Cut, Ram, Next, Geometry}
-use Rattle.saved_format.proofs.Fields.{past-not, past-longest, cut-not, cut-longest}
+use Rattle.saved_format.proofs.Fields.{past-stops, cut-stops}
 use Rattle.saved_format.proofs.Cuts.{cut-none, cut-tag, cut-high}
-use Rattle.saved_format.proofs.Tails.{some-pad, some-geometry, to-ram, of-ram}
+use Rattle.saved_format.proofs.Tails.{some-pad, some-geometry, ram-stops}
 use Rattle.saved_format.specs.Theorems.{NoFile, NoBlock, LongBlock}
-use Rattle.saved_format.proofs.Whole.{content, malformed-by}
+use Rattle.saved_format.proofs.Whole.{content, file-stops}
 
 pub no-file : NoFile
-no-file =
-    let c = cut-none 1 176 176 (omega arith) in
-    malformed-by [] 0 (cut-not 1 176 176 (λ n. Geometry) [] 0 c) (cut-longest 1 176 176 (λ n. Geometry) [] 0 (λ n. some-geometry) c)
-
-ram-cut : (l : List ℕ) (k : ℕ) → Cut 3 1 32768 l k → Longest Ram l k
-ram-cut l k c =
-    let r = cut-longest 3 1 32768 Next l k (λ n. (some-pad .0, inl (some-pad .1))) c in
-    record { reached = (r .reached .0, to-ram _ (r .reached .1), r .reached .2); most = λ g j q s. r .most g j (of-ram g q) s }
+no-file = file-stops [] 0 (cut-stops 1 176 176 (λ n. Geometry) [] 0 (λ n. some-geometry) (cut-none 1 176 176 (omega arith)))
 
 module _ (c g : List ℕ) (control : Content 176 176 c) (geometry : Content 256 256 g) where
   -- the file is sound as far as the first block
   ram-malformed : (l : List ℕ) (k : ℕ) → Cut 3 1 32768 l k → MalformedFile (field 1 c ++ (field 2 g ++ l)) (438 + k)
   ram-malformed l k cut =
-      let a = past-longest 2 256 256 (λ n. Ram) _ g l k geometry refl (ram-cut l k cut) in
-      let b = past-longest 1 176 176 (λ n. Geometry) _ c _ _ control refl a in
+      let r = ram-stops l k (cut-stops 3 1 32768 Next l k (λ n. (some-pad .0, inl (some-pad .1))) cut) in
+      let a = past-stops 2 256 256 (λ n. Ram) _ g l k geometry refl r in
+      let b = past-stops 1 176 176 (λ n. Geometry) _ c _ _ control refl a in
       let e : suc (suc (suc (length c + suc (suc (suc (length g + k)))))) ≡ 438 + k = omega (arith, control .least, control .most, geometry .least, geometry .most) in
-      malformed-by _ (438 + k)
-      (past-not 1 176 176 (λ n. Geometry) _ c _ refl (past-not 2 256 256 (λ n. Ram) _ g l refl (λ r. cut-not 3 1 32768 Next l k cut (of-ram l r))))
-      (rw e at b)
+      file-stops _ (438 + k) (rw e at b)
 
 -- another tag than 3
 pub no-block : NoBlock

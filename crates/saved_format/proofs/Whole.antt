@@ -5,8 +5,9 @@ use Prim.Native.Nat.{ℕ, _<_, _≤_}
 use native.Mathlib.Omega.{arith}
 use lib.ListN.{length}
 use Rattle.byte_order.specs.Bytes.{wordsAt}
-use Rattle.saved_format.specs.Format.{Bytes, field, machine, WellFormedFile, Longest, MalformedFile}
-use Rattle.saved_format.specs.Tails.{Content, End, File}
+use Rattle.saved_format.specs.Format.{Bytes, field, machine, WellFormedFile, MalformedFile}
+use Rattle.saved_format.specs.Tails.{Content, Stops, End, File}
+use Rattle.saved_format.proofs.Tails.{stops-as}
 use Rattle.saved_format.proofs.Bytes.{bytes-append, bytes-left, bytes-right, bytes-content, bytes-rest, bytes-field, bytes-none}
 
 pub content : (n : ℕ) (c : List ℕ) → length c ≡ n → Bytes c → Content n n c
@@ -95,8 +96,5 @@ from-file f a =
     )
 
 -- the number of a file, by its tail
-pub malformed-by : (f : List ℕ) (n : ℕ) → (File f → ⊥) → Longest File f n → MalformedFile f n
-malformed-by f n h r = (
-  λ w. h (to-file f w),
-  record { reached = (r .reached .0, from-file _ (r .reached .1), r .reached .2); most = λ g k w s. r .most g k (to-file g w) s },
-)
+pub file-stops : (f : List ℕ) (n : ℕ) → Stops File f n → MalformedFile f n
+file-stops f n s = let t = stops-as File WellFormedFile f n from-file to-file s in (t .none, t .longest)

@@ -9,11 +9,10 @@ use lib.Dec.{eqb}
 use lib.ListN.{length, length-append}
 use Rattle.memory.specs.Addresses.{ramLength}
 use Rattle.memory.specs.Memory.{memory}
-use borrow.Author.Tests.{eqb-true, eq-eqb}
-use Rattle.byte_order.specs.Bytes.{bytesOf, wordsAt}
+use borrow.Author.Tests.{eqb-true}
 use Rattle.byte_order.proofs.Rows.{length-bytesOf, length-wordsAt}
 use Rattle.image.specs.Formed.{wellFormed}
-use Rattle.image.specs.Refusals.{_else_, firstOf}
+use Rattle.image.specs.Refusals.{_else_}
 use Rattle.image.proofs.Refusals.{all-pass, admitted}
 use Rattle.saved_format.specs.Format.{Machine, Means}
 use Rattle.saved_format.proofs.Deciding.{same-or-not}
@@ -22,6 +21,7 @@ use Rattle.saved_format.proofs.Every.{every-file}
 use Rattle.saved.specs.Refusals.{lengthTests, lengthCode, lentCode}
 use Rattle.saved.specs.Load.{Loaded, loaded, imageOf, loadCode, loadOf, Loads, lengths, malformed, means}
 use Rattle.saved_laws.specs.Calls.{OneOutcome, Outcome, EveryLoad, LoadTold, LoadTells, LoadedRuns}
+use Rattle.saved_laws.proofs.Saves.{code-by}
 
 -- ---- one outcome
 pub one-outcome : OneOutcome
@@ -58,13 +58,11 @@ pub record Took (file image ram pad : List ℕ) (o : Loaded) : Type 0 where
   pub long : length (machine .ram) ≡ length ram
   pub is : o ≡ loaded 0 0 (imageOf machine) (machine .ram) (machine .pad)
 
-code-by : (b : Bool) (code : ℕ) (x : Loaded) (image ram pad : List ℕ) → eqb code 0 ≡ b → cond b x (loaded code 0 image ram pad) .code ≡ 0 → code ≡ 0
-code-by true code x image ram pad e h = eqb-true code 0 e
-code-by false code x image ram pad e h = h
-
 accepted : (m : Machine) (image ram pad : List ℕ) → loadOf m image ram pad .code ≡ 0 → loadCode m ram ≡ 0
 unfolding loadOf
-accepted m image ram pad h = code-by (eqb (loadCode m ram) 0) (loadCode m ram) (loaded 0 0 (imageOf m) (m .ram) (m .pad)) image ram pad refl h
+accepted m image ram pad h =
+    let n = loadCode m ram in
+    code-by (λ (o : Loaded). o .code) (eqb n 0) n (loaded 0 0 (imageOf m) (m .ram) (m .pad)) (loaded n 0 image ram pad) refl refl h
 
 taken : (m : Machine) (image ram pad : List ℕ) → loadCode m ram ≡ 0 → loadOf m image ram pad ≡ loaded 0 0 (imageOf m) (m .ram) (m .pad)
 unfolding loadOf

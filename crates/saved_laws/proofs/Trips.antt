@@ -18,13 +18,13 @@ use Rattle.saved_format.specs.Format.{Bytes, Machine, machine, Means}
 use Rattle.saved_format.specs.Writing.{fileOf}
 use Rattle.saved_format.proofs.Theorems.{file-is, round-trip, words-all, whole}
 use Rattle.saved.specs.Refusals.{lengthTests, lengthCode}
-use Rattle.saved.specs.Save.{machineIn, Saved, saved, saveCode, filed, saveOf}
+use Rattle.saved.specs.Save.{machineIn, Saved, saved, saveCode, saveOf}
 use Rattle.saved.specs.Load.{Loaded, loaded, imageOf, loadCode, loadOf, Loads, means}
 use Rattle.saved.proofs.Words.{bytes-of-append, words-part, rows}
 use Rattle.saved.proofs.Calls.{lent}
-use Rattle.saved_laws.specs.Calls.{Outcome, Back, Again, SameFile}
+use Rattle.saved_laws.specs.Calls.{Back, Again, SameFile}
 use Rattle.saved_laws.proofs.Saves.{done, sized}
-use Rattle.saved_laws.proofs.Loads.{outcome-of, Took, took, image-long}
+use Rattle.saved_laws.proofs.Loads.{outcome-of, took, image-long}
 
 -- ---- writing then reading
 image-back : (image ram pad : List ℕ) → Bytes image → length image ≡ 432 → imageOf (machineIn image ram pad) ≡ image

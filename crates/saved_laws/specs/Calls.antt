@@ -2,12 +2,13 @@
 use mathlib.Core.Bool.{cond}
 use mathlib.Core.List.{List, _++_}
 use mathlib.Core.Path.{_≡_}
-use Prim.Native.Nat.{ℕ, _+_, _*_, _/_, _≤_}
+use Prim.Native.Nat.{ℕ, _≤_}
 use lib.Dec.{leb}
 use lib.ListN.{length, take, drop}
 use Rattle.memory.specs.Memory.{memory}
 use Rattle.image.specs.Refusals.{mostSteps, refusalOf}
 use Rattle.saved_format.specs.Format.{Bytes}
+use Rattle.saved_format.specs.Writing.{fileLength}
 use Rattle.saved.specs.Save.{Saved, saved, saveCode, saveOf}
 use Rattle.saved.specs.Load.{Loaded, loaded, Loads}
 
@@ -56,7 +57,7 @@ LoadTells = (file image ram pad : List ℕ) (o : Loaded) → Loads file image ra
 pub record SaveTold (ram space : List ℕ) (s : Saved) : Type 0 where
   pub kept : (s .code ≡ 0 → ⊥) → s .space ≡ space
   pub none : (s .code ≡ 0 → ⊥) → s .number ≡ 0
-  pub number : s .code ≡ 0 → s .number ≡ 1468 + (length ram + 3 * ((length ram + 32767) / 32768))
+  pub number : s .code ≡ 0 → s .number ≡ fileLength (length ram)
   pub behind : s .code ≡ 0 → drop (s .number) (s .space) ≡ drop (s .number) space
   pub long : length (s .space) ≡ length space
 
@@ -73,4 +74,4 @@ LoadedRuns =
 abbrev pub RunSaves : Type 0
 RunSaves =
     (image ram pad space : List ℕ) (count : ℕ) → Bytes image → refusalOf image (memory ram pad) count ≡ 0
-    → saveCode image ram pad space ≡ cond (leb (1468 + (length ram + 3 * ((length ram + 32767) / 32768))) (length space)) 0 8
+    → saveCode image ram pad space ≡ cond (leb (fileLength (length ram)) (length space)) 0 8

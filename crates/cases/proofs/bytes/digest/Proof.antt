@@ -4,8 +4,8 @@ use native.Mathlib.Omega.{arith}
 use Prim.Native.Nat.{_-_, _≤_}
 use mathlib.Core.Path.{_≡_}
 use lib.ListN.{length}
-use Rattle.cases.proofs.digest.Statement.{statement}
-use Rattle.cases.proofs.digest.Tie as tie
+use Rattle.cases.proofs.bytes.digest.Statement.{statement}
+use Rattle.cases.proofs.bytes.digest.Tie as tie
 
 abbrev Inv-loop : tie.InvT-loop
 Inv-loop m first n d₀ i₀ d i = (i ≤ n) × (n ≡ length m)

@@ -1,8 +1,8 @@
 -- `cases::number_at` meets its contract. The measure is how many digits are left. Assumes nothing.
 use Prim.Native.Nat.{_≤_, _-_}
 use borrow.Author.Needs.{needs}
-use Rattle.cases.proofs.number_at.Statement.{statement}
-use Rattle.cases.proofs.number_at.Tie as tie
+use Rattle.cases.proofs.lines.number_at.Statement.{statement}
+use Rattle.cases.proofs.lines.number_at.Tie as tie
 
 abbrev Inv-loop : tie.InvT-loop
 Inv-loop buf at start x₀ i₀ x i = i ≤ 8

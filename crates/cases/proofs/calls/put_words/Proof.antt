@@ -3,8 +3,8 @@ use borrow.Author.Needs.{needs}
 use Prim.Native.Nat.{_-_, _≤_}
 use mathlib.Core.Path.{_≡_}
 use lib.ListN.{length}
-use Rattle.cases.proofs.put_words.Statement.{statement}
-use Rattle.cases.proofs.put_words.Tie as tie
+use Rattle.cases.proofs.calls.put_words.Statement.{statement}
+use Rattle.cases.proofs.calls.put_words.Tie as tie
 
 abbrev Inv-loop : tie.InvT-loop
 Inv-loop ram₀ words i₀ ram i = (i ≤ 600) × (length ram ≡ length ram₀)
