@@ -107,6 +107,37 @@ static void integer_loop(struct workload *w)
     put_word(w->ram + DATA, 0x12345678);
 }
 
+/* One MULT in 20, and both of its words read. */
+static void product_loop(struct workload *w)
+{
+    const uint32_t code[] = {
+        encode_i(OP_LW, T0, S0, 0),
+        encode_i(OP_ADDIU, S1, S1, 1),
+        encode_r(F_SLL, T2, 0, S1, 3),
+        encode_r(F_XOR, T3, T2, T0, 0),
+        encode_r(F_ADDU, T1, T0, S1, 0),
+        encode_r(F_MULT, 0, T1, T3, 0),
+        encode_r(F_SRL, T4, 0, T3, 5),
+        encode_i(OP_SW, T4, S0, 4),
+        encode_i(OP_ANDI, T5, S1, 0xFF),
+        encode_r(F_MFHI, T7, 0, 0, 0),
+        encode_r(F_MFLO, T3, 0, 0, 0),
+        encode_i(OP_LBU, T6, S0, 5),
+        encode_r(F_SLTU, T7, T7, T3, 0),
+        encode_r(F_NOR, T6, T0, T3, 0),
+        encode_r(F_OR, T2, T7, T5, 0),
+        encode_i(OP_ADDIU, T5, T5, -3),
+        encode_r(F_SRA, T4, 0, T6, 2),
+        encode_i(OP_SW, T4, S0, 0),
+        encode_i(OP_BNE, ZERO, S1, -19),
+        encode_r(F_SUBU, S2, S2, T7, 0),
+    };
+
+    fresh(w);
+    put_code(w, code, sizeof code / sizeof *code);
+    put_word(w->ram + DATA, 0x12345678);
+}
+
 /* The same with its data in the scratch pad. */
 static void pad_loop(struct workload *w)
 {
@@ -427,6 +458,7 @@ int main(int argc, char **argv)
         {"integer loop, calls of 1,000", integer_loop, 1000, 1000, 1, " steps"},
         {"integer loop, calls of 1,000,000", integer_loop, 1000000, 1, 1, " steps"},
         {"integer loop, data in the pad", pad_loop, 1000000, 1, 1, " steps"},
+        {"one MULT in 20", product_loop, 1000000, 1, 1, " steps"},
     };
     unsigned rounds = 15, i;
     bool same = true;

@@ -247,6 +247,16 @@ static const char *const perspective_names[2 * BITS_LEFT] = {
     "RTPS, no bit", "RTPS, line 7 alone", "RTPS, other bits", "RTPT, no bit", "RTPT, line 7 alone", "RTPT, other bits",
 };
 
+/* Products of words that are edges, by pairs; and of any words, by their sign bits and by the two carries of a product from halves. */
+#define EDGES 5
+#define SIGNS 4
+#define CARRIES 4
+
+static const uint32_t edges[EDGES] = {0, 1, 0x7FFFFFFF, 0x80000000, 0xFFFFFFFF};
+static const char *const product_names[2] = {"mult", "multu"};
+static const char *const sign_names[SIGNS] = {"no sign bit", "the second's sign bit", "the first's sign bit", "both sign bits"};
+static const char *const carry_names[CARRIES] = {"no carry", "the first carry", "the second carry", "both carries"};
+
 static const char *const exception_names[13] = {[4] = "AdEL", [5] = "AdES", [6] = "IBE", [7] = "DBE", [8] = "Sys",
                                                 [9] = "Bp", [10] = "RI", [11] = "CpU", [12] = "Ovf"};
 
@@ -263,6 +273,7 @@ static uint64_t pad_accesses[ACCESSES][2 * PAD_PLACES], pad_exceptions[ACCESSES]
 static uint64_t refusals[REASONS][REASONS]; /* for just these two reasons, or for one alone */
 static uint64_t quotients[QUOTIENT_KINDS], table_entries[TABLE_ENTRIES];
 static uint64_t perspectives[2 * BITS_LEFT];
+static uint64_t edge_products[2][EDGES][EDGES], sign_products[2][SIGNS], carry_products[2][CARRIES]; /* of MULT and of MULTU */
 static uint64_t question_codes[MODEL_SPACE + 1], spaces[SPACE_KINDS];
 static uint64_t question_forms[COMMANDS][4], question_mvmva_forms[256]; /* by sf and lm; by sf, mx, v, cv, lm */
 static uint64_t causes[COMMANDS][3][LINES][31]; /* by part, line and bit */
@@ -318,6 +329,27 @@ static void count_command(uint32_t word, uint32_t flag)
         }
     if ((word & 0x3F) == 0x12)
         mvmva_forms[(word >> 13 & 0x7F) | lm << 7]++;
+}
+
+static unsigned edge_index(uint32_t word)
+{
+    unsigned i;
+
+    for (i = 0; i < EDGES && edges[i] != word; i++)
+        ;
+    return i;
+}
+
+static void count_product(unsigned unsigned_one, uint32_t a, uint32_t b)
+{
+    unsigned i = edge_index(a), k = edge_index(b);
+    uint32_t low = (a & 0xFFFF) * (b & 0xFFFF), middle = (a & 0xFFFF) * (b >> 16) << 16, other = (a >> 16) * (b & 0xFFFF) << 16;
+    uint32_t part = low + middle;
+
+    if (i < EDGES && k < EDGES)
+        edge_products[unsigned_one][i][k]++;
+    sign_products[unsigned_one][2 * (a >> 31) + (b >> 31)]++;
+    carry_products[unsigned_one][(part < low) + 2 * (part + other < part)]++;
 }
 
 static void count_quotient(uint32_t h, uint32_t sz3)
@@ -464,6 +496,8 @@ static void count_step(const struct model *before, const struct model *after, en
     }
     done[index]++;
     taken[index] += after->delay_slot && after->next_pc != before->next_pc + 4;
+    if (word >> 26 == 0 && ((word & 0x3F) == F_MULT || (word & 0x3F) == F_MULTU))
+        count_product((word & 0x3F) == F_MULTU, before->general[word >> 21 & 31], before->general[word >> 16 & 31]);
     if (strcmp(names[index], "cop2") == 0) {
         unsigned i, vertices = (word & 0x3F) == 0x01 ? 1 : (word & 0x3F) == 0x30 ? 3 : 0;
 
@@ -847,7 +881,7 @@ static void tally(struct tally *t, bool reached, const char *format, ...)
 enum {
     ALL_INSTRUCTIONS, ALL_COMMANDS, ALL_FORMS, ALL_MVMVA, BITS_SET, BITS_CLEAR, BITS_IMPOSSIBLE, OUTSIDE_SLOTS,
     IN_SLOTS, ALL_EVENTS, RUN_CODES, SEARCH_CODES, ALL_REFUSALS, ALL_WINDOWS, IN_THE_PAD, AROUND_THE_PAD, ALL_FETCHES,
-    ALL_QUOTIENTS, ALL_ENTRIES, ALL_PERSPECTIVES, QUESTION_CODES, ALL_SPACES, QUESTION_FORMS, ALL_CAUSES, CAUSES_IMPOSSIBLE,
+    ALL_QUOTIENTS, ALL_ENTRIES, ALL_PERSPECTIVES, EDGE_PRODUCTS, SIGN_PRODUCTS, CARRY_PRODUCTS, QUESTION_CODES, ALL_SPACES, QUESTION_FORMS, ALL_CAUSES, CAUSES_IMPOSSIBLE,
     SAVE_CODES, LOAD_CODES, SAVE_REFUSALS, LOAD_REFUSALS, ALL_BYTE_SPACES, SAVED_RAMS, LOADED_RAMS, ALL_LOADS, ALL_STOPS,
     STOPS_IMPOSSIBLE, ALL_BLOCKS, TALLIES
 };
@@ -1027,6 +1061,22 @@ static void tally_saved(struct tally *t)
     tally_stops(t);
 }
 
+static void tally_products(struct tally *t)
+{
+    unsigned u, i, k;
+
+    for (u = 0; u < 2; u++) {
+        for (i = 0; i < EDGES; i++)
+            for (k = 0; k < EDGES; k++)
+                tally(&t[EDGE_PRODUCTS], edge_products[u][i][k] != 0, "%s of %08X and %08X", product_names[u], (unsigned)edges[i],
+                      (unsigned)edges[k]);
+        for (i = 0; i < SIGNS; i++)
+            tally(&t[SIGN_PRODUCTS], sign_products[u][i] != 0, "%s, %s", product_names[u], sign_names[i]);
+        for (i = 0; i < CARRIES; i++)
+            tally(&t[CARRY_PRODUCTS], carry_products[u][i] != 0, "%s, %s", product_names[u], carry_names[i]);
+    }
+}
+
 static void tally_all(struct tally t[TALLIES])
 {
     static const char *const kinds[TALLIES] = {
@@ -1050,6 +1100,9 @@ static void tally_all(struct tally t[TALLIES])
         [ALL_QUOTIENTS] = "kinds of quotients",
         [ALL_ENTRIES] = "entries of the division's table",
         [ALL_PERSPECTIVES] = "kinds of perspective commands",
+        [EDGE_PRODUCTS] = "products of 0, 1, 7FFFFFFFh, 80000000h and FFFFFFFFh, signed and unsigned",
+        [SIGN_PRODUCTS] = "products by their sign bits",
+        [CARRY_PRODUCTS] = "products by the carries between halves",
         [QUESTION_CODES] = "codes of the causes",
         [ALL_SPACES] = "kinds of words lent for causes",
         [QUESTION_FORMS] = "forms of commands asked for causes",
@@ -1095,6 +1148,7 @@ static void tally_all(struct tally t[TALLIES])
         tally(&t[ALL_ENTRIES], table_entries[i] != 0, "%u", i);
     for (i = 0; i < 2 * BITS_LEFT; i++)
         tally(&t[ALL_PERSPECTIVES], perspectives[i] != 0, "%s", perspective_names[i]);
+    tally_products(t);
     tally_questions(t);
     tally_saved(t);
 }
@@ -1247,6 +1301,23 @@ static void print_saved(void)
     print_names("blocks that make a file malformed", block_names, wrong_blocks, BLOCK_KINDS);
 }
 
+static void print_products(void)
+{
+    unsigned u, i, k;
+
+    for (u = 0; u < 2; u++) {
+        printf("%s of edges:\n", product_names[u]);
+        for (i = 0; i < EDGES; i++) {
+            printf("  %08X", (unsigned)edges[i]);
+            for (k = 0; k < EDGES; k++)
+                printf(" %7llu", (unsigned long long)edge_products[u][i][k]);
+            printf("\n");
+        }
+        print_names(product_names[u], sign_names, sign_products[u], SIGNS);
+        print_names(product_names[u], carry_names, carry_products[u], CARRIES);
+    }
+}
+
 void coverage_print(void)
 {
     struct tally t[TALLIES];
@@ -1271,6 +1342,7 @@ void coverage_print(void)
     print_names("windows", window_names, windows, WINDOW_KINDS);
     print_names("quotients", quotient_names, quotients, QUOTIENT_KINDS);
     print_names("perspective commands with sf 1", perspective_names, perspectives, 2 * BITS_LEFT);
+    print_products();
     print_saved();
     printf("reached:\n");
     tally_all(t);

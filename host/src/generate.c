@@ -704,12 +704,13 @@ static void operands_at_edges(struct random *r, uint32_t *word, uint32_t instruc
 {
     static const uint32_t ends[] = {0, 1, 0xFFFFFFFF, 0x7FFFFFFF, 0x80000000};
 
-    uint32_t rs = instruction >> 21 & 31, rt = instruction >> 16 & 31;
+    uint32_t rs = instruction >> 21 & 31, rt = instruction >> 16 & 31, funct = instruction & 0x3F;
+    bool product = instruction >> 26 == 0 && (funct == F_MULT || funct == F_MULTU);
 
-    if (instruction >> 26 < 0x10 && chance(r, 40)) {
+    if (instruction >> 26 < 0x10 && chance(r, product ? 80 : 40)) {
         word[rs] = PICK(r, ends);
         word[rt] = PICK(r, ends);
-        if (chance(r, 20)) { /* the quotient that 32 bits cannot hold */
+        if (!product && chance(r, 20)) { /* the quotient that 32 bits cannot hold */
             word[rs] = 0x80000000;
             word[rt] = 0xFFFFFFFF;
         }
@@ -748,7 +749,7 @@ static void step_case(struct random *r, struct test_case *c)
         put_word(c->ram + i, chance(r, 70) ? random_instruction(r, &l) : edge_word(r));
     }
     l.position = below(r, (uint32_t)c->ram_length / 4) * 4;
-    put_word(c->ram + l.position, random_instruction(r, &l));
+    put_word(c->ram + l.position, chance(r, 15) ? random_multiply_divide(r, &l) : random_instruction(r, &l));
     operands_at_edges(r, word, get_word(c->ram + l.position));
     address_at_edge(r, word, get_word(c->ram + l.position), (uint32_t)c->ram_length);
     word[PC] = l.position | segment(r, word[SR]);

@@ -867,6 +867,45 @@ static uint64_t hi_lo(uint32_t funct, uint32_t r1, uint32_t r2)
     return (uint64_t)word[HI] << 32 | word[LO];
 }
 
+/* HI and LO of MULT and MULTU of every pair of edges, worked out by hand. */
+static void products(void)
+{
+    static const struct {
+        uint32_t a, b;
+        uint64_t product, unsigned_product;
+    } edges[] = {
+        {0, 0, 0, 0},
+        {0, 1, 0, 0},
+        {0, 0x7FFFFFFF, 0, 0},
+        {0, 0x80000000, 0, 0},
+        {0, 0xFFFFFFFF, 0, 0},
+        {1, 1, 1, 1},
+        {1, 0x7FFFFFFF, 0x7FFFFFFF, 0x7FFFFFFF},
+        {1, 0x80000000, 0xFFFFFFFF80000000, 0x80000000},
+        {1, 0xFFFFFFFF, 0xFFFFFFFFFFFFFFFF, 0xFFFFFFFF},
+        {0x7FFFFFFF, 0x7FFFFFFF, 0x3FFFFFFF00000001, 0x3FFFFFFF00000001},
+        {0x7FFFFFFF, 0x80000000, 0xC000000080000000, 0x3FFFFFFF80000000},
+        {0x7FFFFFFF, 0xFFFFFFFF, 0xFFFFFFFF80000001, 0x7FFFFFFE80000001},
+        {0x80000000, 0x80000000, 0x4000000000000000, 0x4000000000000000},
+        {0x80000000, 0xFFFFFFFF, 0x0000000080000000, 0x7FFFFFFF80000000},
+        {0xFFFFFFFF, 0xFFFFFFFF, 1, 0xFFFFFFFE00000001},
+    };
+    unsigned i;
+
+    for (i = 0; i < sizeof edges / sizeof *edges; i++) {
+        equal("MULT of edges", hi_lo(F_MULT, edges[i].a, edges[i].b), edges[i].product);
+        equal("MULT of edges, exchanged", hi_lo(F_MULT, edges[i].b, edges[i].a), edges[i].product);
+        equal("MULTU of edges", hi_lo(F_MULTU, edges[i].a, edges[i].b), edges[i].unsigned_product);
+        equal("MULTU of edges, exchanged", hi_lo(F_MULTU, edges[i].b, edges[i].a), edges[i].unsigned_product);
+    }
+    /* the carries of a product that is made from halves */
+    equal("MULTU, the first carry", hi_lo(F_MULTU, 0x0000FFFF, 0x0002FFFF), 0x00000002FFFC0001);
+    equal("MULTU, the second carry", hi_lo(F_MULTU, 0x0002FFFF, 0x0000FFFF), 0x00000002FFFC0001);
+    equal("MULTU, both carries", hi_lo(F_MULTU, 0x0002FFFF, 0x0002FFFF), 0x00000008FFFA0001);
+    equal("MULTU, no carry", hi_lo(F_MULTU, 0x00020003, 0x00040005), 0x000000080016000F);
+    equal("MULT, a carry and a sign", hi_lo(F_MULT, 0xFFFFFFFD, 0x7FFFFFFF), 0xFFFFFFFE80000003);
+}
+
 static void arithmetic(void)
 {
     equal("SLL", operate_shift(F_SLL, 0x80000001, 31), 0x80000000);
@@ -907,6 +946,7 @@ static void arithmetic(void)
     equal("MULT sign", hi_lo(F_MULT, 0xFFFFFFFF, 2), 0xFFFFFFFFFFFFFFFE);
     equal("MULT lowest", hi_lo(F_MULT, 0x80000000, 0x80000000), 0x4000000000000000);
     equal("MULTU", hi_lo(F_MULTU, 0xFFFFFFFF, 0xFFFFFFFF), 0xFFFFFFFE00000001);
+    products();
     equal("DIV -7 / 2", hi_lo(F_DIV, (uint32_t)-7, 2), 0xFFFFFFFFFFFFFFFD);
     equal("DIV 7 / -2", hi_lo(F_DIV, 7, (uint32_t)-2), 0x00000001FFFFFFFD);
     equal("DIV 5 / 0", hi_lo(F_DIV, 5, 0), 0x00000005FFFFFFFF);

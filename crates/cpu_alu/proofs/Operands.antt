@@ -1,13 +1,11 @@
--- Two signed words taken to 64 bits: each cast is in range and gives the number itself, and their sum, difference and
--- product are in range too.
+-- Two signed words taken to 64 bits: each cast is in range and gives the number itself, and their sum and difference are
+-- in range too.
 use mathlib.Core.Path.{_≡_, _∙_}
-use lib.IntN.{ℤ, _+ℤ_, _-ℤ_, _*ℤ_}
-use lib.Signed.{shrZ}
-use Prim.Native.Nat.{_^_}
+use lib.IntN.{ℤ, _+ℤ_, _-ℤ_}
 use mir.Syntax.{w32, w64}
 use mir.Val.{SFits, toZ, ofZ}
 use mir.Facts.{toZ-ofZ, sfits-widen}
-use Rattle.integers.specs.Bound.{arg, fit, mag-add, mag-sub, mag-mul, mag-shr}
+use Rattle.integers.specs.Bound.{arg, fit, mag-add, mag-sub}
 
 pub widen : {z : ℤ} → SFits w32 z → SFits w64 (toZ w32 (ofZ w32 z))
 widen f = rw (toZ-ofZ f) (sfits-widen tt f)
@@ -20,9 +18,3 @@ sum-fits {a} {b} f g = fit w64 (mag-add {a = a} {b = b} (arg w32 f) (arg w32 g))
 
 pub difference-fits : {a b : ℤ} → SFits w32 a → SFits w32 b → SFits w64 (a -ℤ b)
 difference-fits {a} {b} f g = fit w64 (mag-sub {a = a} {b = b} (arg w32 f) (arg w32 g)) tt
-
-pub product-fits : {a b : ℤ} → SFits w32 a → SFits w32 b → SFits w64 (a *ℤ b)
-product-fits {a} {b} f g = fit w64 (mag-mul {a = a} {b = b} (arg w32 f) (arg w32 g)) tt
-
-pub shift-fits : {z : ℤ} → SFits w64 z → SFits w64 (shrZ z (2 ^ 32))
-shift-fits f = fit w64 (mag-shr (2 ^ 32) (arg w64 f)) tt

@@ -8,7 +8,6 @@ use cpu_alu::mul_div::HiLo;
 use cpu_alu::mul_div::divide;
 use cpu_alu::mul_div::divide_unsigned;
 use cpu_alu::mul_div::multiply;
-use cpu_alu::mul_div::multiply_unsigned;
 use cpu_alu::sums::Sum;
 use cpu_alu::sums::add_signed;
 use cpu_alu::sums::less_signed;
@@ -108,8 +107,13 @@ pub fn execute(op: Op, f: Fields, a: u32, b: u32, next: u32, h: HiLo) -> Effect
         Op::Mthi => Effect::Product(HiLo { hi: a, lo: h.lo }),
         Op::Mflo => Effect::Write(f.rd, h.lo),
         Op::Mtlo => Effect::Product(HiLo { hi: h.hi, lo: a }),
-        Op::Mult => Effect::Product(multiply(a, b)),
-        Op::Multu => Effect::Product(multiply_unsigned(a, b)),
+        Op::Mult | Op::Multu => {
+            let signed = match op {
+                Op::Mult => true,
+                _ => false,
+            };
+            Effect::Product(multiply(signed, a, b))
+        }
         Op::Div => Effect::Product(divide(a, b)),
         Op::Divu => Effect::Product(divide_unsigned(a, b)),
         Op::Add => write_sum(f.rd, add_signed(a, b)),

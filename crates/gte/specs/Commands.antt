@@ -27,6 +27,8 @@ use Rattle.gte_colour.specs.Cueing.{depthCuedChecks}
 use Rattle.gte_shading.specs.DepthCueing.{dcplFrom, dcplOf, intplFrom, intplOf, dpcsFrom, dpcsOf, dpctFrom, dpctOf}
 use Rattle.gte.specs.declared.Outcome.{Outcome}
 use Rattle.gte.specs.declared.Outcome.the-variants.{Done, Unlisted}
+use Rattle.gte.specs.declared.Long.{Long}
+use Rattle.gte.specs.declared.Long.the-variants.{Cc, Cdp, Dpct, Ncct}
 
 -- ---- the command word
 abbrev pub sfOf : ℕ → Bool
@@ -105,6 +107,13 @@ leaves GPF sf lm word i w = shadeLeft (gpfOf sf lm i) w
 leaves GPL sf lm word i w = shadeLeft (gplOf sf lm i) w
 leaves NCCT sf lm word i w = shadesLeft (nccsOf sf lm i 0) (nccsOf sf lm i 1) (nccsOf sf lm i 2) w
 leaves unlisted sf lm word i w = w
+
+-- the commands that share a function in the code
+abbrev pub longOf : Long → Command
+longOf Cc = CC
+longOf Cdp = CDP
+longOf Dpct = DPCT
+longOf Ncct = NCCT
 
 -- every check that a command makes, by part: a triple has three, in the order in which they are carried out, and every other command one
 unfoldable pub partsOf : Command → Bool → Bool → ℕ → Inputs → List (List Check)

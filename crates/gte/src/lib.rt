@@ -1,8 +1,9 @@
 // A command word is carried out. Carries 01 "GTE arithmetic": the 22 commands by their low six bits.
 ghost use mathlib.Core.Path.{_≡_};
 ghost use Rattle.words.specs.Words.{bitAt};
-ghost use Rattle.gte_registers.specs.Registers.{view};
-ghost use Rattle.gte.specs.Commands.{outcomeOf, isDone, commandOf};
+ghost use Rattle.gte_registers.specs.Registers.{view, reads};
+ghost use Rattle.gte_inputs.specs.Inputs.{inputsOf};
+ghost use Rattle.gte.specs.Commands.{leaves, longOf, outcomeOf, isDone, commandOf};
 use gte_depth::averages::avsz3;
 use gte_depth::averages::avsz4;
 use gte_depth::averages::nclip;
@@ -46,6 +47,27 @@ pub fn bit_10(word: u32) -> bool
     word / 0x400 % 2 == 1
 }
 
+// CC, CDP, DPCT and NCCT, whose code is long.
+enum Long {
+    Cc,
+    Cdp,
+    Dpct,
+    Ncct,
+}
+
+// They stand in one function that is called from four places, and so stays one: what is called from one place becomes part of the
+// step, which has no room for them (ARCHITECTURE.md, "Why the code is shaped so").
+fn long_command(c: &mut [u32; 64], k: Long, sf: bool, lm: bool)
+    ensures { λ _. ⌜ view (now (c .exit)) ≡ reads (leaves (longOf k) sf lm 0 (inputsOf (view (now (c .entry)))) (view (now (c .entry)))) ⌝ }
+{
+    match k {
+        Long::Cc => cc(c, sf, lm),
+        Long::Cdp => cdp(c, sf, lm),
+        Long::Dpct => dpct(c, sf, lm),
+        Long::Ncct => ncct(c, sf, lm),
+    }
+}
+
 // One GTE command over the 64 words; the GTE has no other entry but reads and writes of registers.
 pub fn command(c: &mut [u32; 64], word: u32) -> Outcome
     ensures is { λ r. ⌜ r ≡ outcomeOf word ⌝ }
@@ -68,21 +90,21 @@ pub fn command(c: &mut [u32; 64], word: u32) -> Outcome
             lm,
         ),
         0x13 => ncds(c, sf, lm),
-        0x14 => cdp(c, sf, lm),
+        0x14 => long_command(c, Long::Cdp, sf, lm),
         0x16 => ncdt(c, sf, lm),
         0x1b => nccs(c, sf, lm),
-        0x1c => cc(c, sf, lm),
+        0x1c => long_command(c, Long::Cc, sf, lm),
         0x1e => ncs(c, sf, lm),
         0x20 => nct(c, sf, lm),
         0x28 => sqr(c, sf, lm),
         0x29 => dcpl(c, sf, lm),
-        0x2a => dpct(c, sf, lm),
+        0x2a => long_command(c, Long::Dpct, sf, lm),
         0x2d => avsz3(c),
         0x2e => avsz4(c),
         0x30 => rtpt(c, sf),
         0x3d => gpf(c, sf, lm),
         0x3e => gpl(c, sf, lm),
-        0x3f => ncct(c, sf, lm),
+        0x3f => long_command(c, Long::Ncct, sf, lm),
         _ => {
             return Outcome::Unlisted;
         }

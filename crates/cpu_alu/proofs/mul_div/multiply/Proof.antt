@@ -1,37 +1,29 @@
--- The product of two signed words fits 64 bits, so its two halves are those of the exact product.
-use borrow.Author.Needs.{needs, sfits-of}
-use mir.Syntax.{w32}
-use mir.Val.{SFits}
-use mir.Facts.{toZ-ofZ}
-use Rattle.cpu_alu.specs.MulDiv.{productOf}
-use Rattle.cpu_alu.proofs.Operands.{widen, wide, product-fits, shift-fits}
+-- HI loses the other factor for each factor whose sign bit is set.
+use borrow.Author.Needs.{needs}
+use native.Mathlib.Omega.{arith}
+use Rattle.cpu_alu.proofs.Product.{signed-words}
 use Rattle.cpu_alu.proofs.mul_div.multiply.Statement.{statement}
 use Rattle.cpu_alu.proofs.mul_div.multiply.Tie as tie
 
-first : (c : tie.After-to-signed) → SFits w32 (c .to-signed .result)
-first c = sfits-of (c .to-signed .ok)
-
-second : (c : tie.After-to-signed2) → SFits w32 (c .to-signed2 .result)
-second c = sfits-of (c .to-signed2 .ok)
-
 returns : tie.Need-returns
-unfolding productOf
 returns c =
-    let s = c .before .before in
-    let f = first (s .before) in
-    let g = second s in
-    let p = product-fits f g in
-    rw (c .before .low-word .ensures, c .low-word2 .ensures, wide f, wide g, toZ-ofZ p, toZ-ofZ (shift-fits p), s .before .to-signed .ensures, s .to-signed2 .ensures)
+    let u = c .before .before .before .before .before in
+    let s = u .before in
+    rw (c .before .before .before .before .if1 .taken)
+    (signed-words (s .args .a) (s .args .b) (u .multiply-unsigned .result) _ _ _ _ (s .fits .a .fits) (s .fits .b .fits) (u .multiply-unsigned .ensures)
+    (c .before .before .before .where-negative .ensures) (c .before .where-negative2 .ensures) (c .before .before .wrapping-sub-u32 .ensures) (c .wrapping-sub-u322 .ensures) (omega arith))
+
+returns-2 : tie.Need-returns-2
+returns-2 c = rw (c .if1 .left) (c .before .multiply-unsigned .ensures)
 
 pub multiply-spec : {M : Type 1} → statement M
 multiply-spec =
     tie.close
     (tie.spec
     (λ c κs. search needs)
-    (λ c. widen (first c))
-    (λ c κs. search needs)
-    (λ c. widen (second c))
-    (λ c. let f = first (c .before) in let g = second c in rw (wide f, wide g) (product-fits f g))
     (λ c κs. search needs)
     (λ c κs. search needs)
-    returns)
+    (λ c κs. search needs)
+    (λ c κs. search needs)
+    returns
+    returns-2)
