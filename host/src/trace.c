@@ -17,7 +17,7 @@
 #include "encode.h"
 #include "fliskadee.h"
 
-enum { RAM_BYTES = 65536, REGISTERS = 32, MOST_CODE = 1 << 24, TRAP_FLAG = 0x100 };
+enum { RAM_BYTES = 65536, REGISTERS = 32, MOST_CODE = 1 << 20, TRAP_FLAG = 0x100 };
 
 extern const char __executable_start, etext; /* of the linker: where this program's code lies */
 
@@ -30,7 +30,7 @@ static void note(int signal, siginfo_t *info, void *context)
     size_t place = (size_t)((ucontext_t *)context)->uc_mcontext.gregs[REG_RIP] - (size_t)&__executable_start;
 
     (void)signal, (void)info;
-    if (place < (size_t)(&etext - &__executable_start))
+    if (place < MOST_CODE && place < (size_t)(&etext - &__executable_start))
         met[place] = 1;
 }
 
