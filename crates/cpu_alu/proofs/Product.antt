@@ -1,7 +1,7 @@
 -- A product of words from the four products of their halves, and its two words.
 use mathlib.Core.Bool.{Bool, true, false}
 use mathlib.Core.Path.{_≡_, refl, sym, ap, _∙_}
-use Prim.Native.Nat.{ℕ, _+_, _*_, _/_, _%_, _^_, _<_, _≤_}
+use Prim.Native.Nat.{ℕ, suc, _+_, _*_, _/_, _%_, _^_, _<_, _≤_}
 use native.Mathlib.Nat.{mul-add, add-mul, mul-assoc, mul-comm, mul-left-comm, mul-le-mul, div-add-mod'}
 use native.Mathlib.Omega.{arith}
 use lib.Dec.{ltb, lit<}
@@ -23,11 +23,8 @@ use Rattle.cpu_alu.specs.declared.mul_div.HiLo.{HiLo}
 -- ---- naturals
 
 -- a product of halves fits a word, and one of words 64 bits
-pub halves-fit : {x y : ℕ} → x < 65536 → y < 65536 → x * y ≤ 65535 * 65535
-halves-fit h k = mul-le-mul {n₂ = 65535} {m₂ = 65535} (omega arith) (omega arith)
-
-words-fit : {a b : ℕ} → a < 2 ^ 32 → b < 2 ^ 32 → a * b ≤ 0xffff_ffff * 0xffff_ffff
-words-fit h k = mul-le-mul {n₂ = 0xffff_ffff} {m₂ = 0xffff_ffff} (omega arith) (omega arith)
+pub below : (m : ℕ) {x y : ℕ} → x < suc m → y < suc m → x * y ≤ m * m
+below m h k = mul-le-mul (omega arith) (omega arith)
 
 parts : (a₁ a₀ b₁ b₀ : ℕ) → (a₁ * 65536 + a₀) * (b₁ * 65536 + b₀) ≡ a₁ * b₁ * 2 ^ 32 + (a₀ * b₁ + a₁ * b₀) * 65536 + a₀ * b₀
 parts a₁ a₀ b₁ b₀ = simp (mul-add, add-mul, mul-assoc, mul-comm, mul-left-comm) (omega arith)
@@ -40,9 +37,9 @@ from-halves a b = rw (div-add-mod' a 65536, div-add-mod' b 65536) at (parts (a /
 pub high-fits : (a b m o high c d : ℕ) → a < 2 ^ 32 → b < 2 ^ 32 → m ≡ a % 65536 * (b / 65536) → o ≡ a / 65536 * (b % 65536) → high ≡ a / 65536 * (b / 65536)
     → c ≤ 1 → d ≤ 1 → high + m / 65536 + o / 65536 + c + d < 2 ^ 32
 high-fits a b m o high c d fa fb em eo eh ec ed =
-    let km : a % 65536 * (b / 65536) ≤ 65535 * 65535 = halves-fit (omega arith) (omega arith) in
-    let ko : a / 65536 * (b % 65536) ≤ 65535 * 65535 = halves-fit (omega arith) (omega arith) in
-    let kh : a / 65536 * (b / 65536) ≤ 65535 * 65535 = halves-fit (omega arith) (omega arith) in
+    let km : a % 65536 * (b / 65536) ≤ 65535 * 65535 = below 65535 (omega arith) (omega arith) in
+    let ko : a / 65536 * (b % 65536) ≤ 65535 * 65535 = below 65535 (omega arith) (omega arith) in
+    let kh : a / 65536 * (b / 65536) ≤ 65535 * 65535 = below 65535 (omega arith) (omega arith) in
     sized high m o c d (omega arith) (omega arith) (omega arith) ec ed
   where
     sized : (h m o c d : ℕ) → h ≤ 65535 * 65535 → m ≤ 65535 * 65535 → o ≤ 65535 * 65535 → c ≤ 1 → d ≤ 1 → h + m / 65536 + o / 65536 + c + d < 2 ^ 32
@@ -118,12 +115,13 @@ one-pair : (r s : HiLo) → Words r → Words s → joined r ≡ joined s → r 
 one-pair r s f g e =
     two-words (joined r) (r .hi) (r .lo) (f .1) refl ∙ rw e (sym (two-words (joined s) (s .hi) (s .lo) (g .1) refl))
 
+exact : {right : HiLo → Type 0} {r : HiLo} → Words r → right r → (Words r → (s : HiLo) → Words s → right s → joined s ≡ joined r) → Only right r
+exact {right} {r} w h same = record { words = w; holds = h; only = λ s k e. one-pair s r k w (same w s k e) }
+
 pub unsigned-exact : UnsignedExact
 unfolding unsignedProductOf
 unsigned-exact a b f g =
-    let w : Words (unsignedProductOf a b) = (omega (arith, words-fit (f .fits) (g .fits)), omega arith) in
-    let h : joined (unsignedProductOf a b) ≡ a * b = omega arith in
-    record { words = w; holds = h; only = λ s k e. one-pair s (unsignedProductOf a b) k w (e ∙ sym h) }
+    exact (omega (arith, below 0xffff_ffff (f .fits) (g .fits)), omega arith) (omega arith) (λ w s k e. omega arith)
 
 -- the two words of an integer, side by side
 joined-is : (z : ℤ) → modZ z (2 ^ 64) ≡ modZ (shrZ z (2 ^ 32)) (2 ^ 32) * 2 ^ 32 + modZ z (2 ^ 32)
@@ -141,7 +139,6 @@ pub signed-exact : SignedExact
 unfolding productOf
 signed-exact a b f g =
     let z = toZ w32 a *ℤ toZ w32 b in
-    let p = productOf a b in
-    let w : Words p = (mod-below (shrZ z (2 ^ 32)) (2 ^ 32) (lit< tt), mod-below z (2 ^ 32) (lit< tt)) in
-    let h : toZ w64 (joined p) ≡ z = ap (toZ w64) (sym (joined-is z)) ∙ toZ-mod w64 z ∙ wrap-fits (2 ^ 63) (mag-le (mag-mul (arg w32 (sfits-toZ f)) (arg w32 (sfits-toZ g))) (omega arith)) in
-    record { words = w; holds = h; only = λ s k e. one-pair s p k w (sym (ofZ-toZ {w = w64} (joined-fits s k)) ∙ ap (ofZ w64) (e ∙ sym h) ∙ ofZ-toZ {w = w64} (joined-fits p w)) }
+    let h = ap (toZ w64) (sym (joined-is z)) ∙ toZ-mod w64 z ∙ wrap-fits (2 ^ 63) (mag-le (mag-mul (arg w32 (sfits-toZ f)) (arg w32 (sfits-toZ g))) (omega arith)) in
+    exact (mod-below (shrZ z (2 ^ 32)) (2 ^ 32) (lit< tt), mod-below z (2 ^ 32) (lit< tt)) h
+    (λ w s k e. sym (ofZ-toZ {w = w64} (joined-fits s k)) ∙ ap (ofZ w64) (e ∙ sym h) ∙ ofZ-toZ {w = w64} (joined-fits _ w))
