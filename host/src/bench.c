@@ -138,7 +138,7 @@ static void product_loop(struct workload *w)
     put_word(w->ram + DATA, 0x12345678);
 }
 
-/* The same with its data in the scratch pad. */
+/* The integer loop with its data in the scratch pad. */
 static void pad_loop(struct workload *w)
 {
     integer_loop(w);

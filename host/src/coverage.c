@@ -340,16 +340,16 @@ static unsigned edge_index(uint32_t word)
     return i;
 }
 
-static void count_product(unsigned unsigned_one, uint32_t a, uint32_t b)
+static void count_product(bool is_unsigned, uint32_t a, uint32_t b)
 {
     unsigned i = edge_index(a), k = edge_index(b);
     uint32_t low = (a & 0xFFFF) * (b & 0xFFFF), middle = (a & 0xFFFF) * (b >> 16) << 16, other = (a >> 16) * (b & 0xFFFF) << 16;
     uint32_t part = low + middle;
 
     if (i < EDGES && k < EDGES)
-        edge_products[unsigned_one][i][k]++;
-    sign_products[unsigned_one][2 * (a >> 31) + (b >> 31)]++;
-    carry_products[unsigned_one][(part < low) + 2 * (part + other < part)]++;
+        edge_products[is_unsigned][i][k]++;
+    sign_products[is_unsigned][2 * (a >> 31) + (b >> 31)]++;
+    carry_products[is_unsigned][(part < low) + 2 * (part + other < part)]++;
 }
 
 static void count_quotient(uint32_t h, uint32_t sz3)
@@ -881,7 +881,8 @@ static void tally(struct tally *t, bool reached, const char *format, ...)
 enum {
     ALL_INSTRUCTIONS, ALL_COMMANDS, ALL_FORMS, ALL_MVMVA, BITS_SET, BITS_CLEAR, BITS_IMPOSSIBLE, OUTSIDE_SLOTS,
     IN_SLOTS, ALL_EVENTS, RUN_CODES, SEARCH_CODES, ALL_REFUSALS, ALL_WINDOWS, IN_THE_PAD, AROUND_THE_PAD, ALL_FETCHES,
-    ALL_QUOTIENTS, ALL_ENTRIES, ALL_PERSPECTIVES, EDGE_PRODUCTS, SIGN_PRODUCTS, CARRY_PRODUCTS, QUESTION_CODES, ALL_SPACES, QUESTION_FORMS, ALL_CAUSES, CAUSES_IMPOSSIBLE,
+    ALL_QUOTIENTS, ALL_ENTRIES, ALL_PERSPECTIVES, EDGE_PRODUCTS, SIGN_PRODUCTS, CARRY_PRODUCTS, QUESTION_CODES, ALL_SPACES,
+    QUESTION_FORMS, ALL_CAUSES, CAUSES_IMPOSSIBLE,
     SAVE_CODES, LOAD_CODES, SAVE_REFUSALS, LOAD_REFUSALS, ALL_BYTE_SPACES, SAVED_RAMS, LOADED_RAMS, ALL_LOADS, ALL_STOPS,
     STOPS_IMPOSSIBLE, ALL_BLOCKS, TALLIES
 };
