@@ -4,7 +4,7 @@
 
 // A code of the calls' list, and a number that the code gives its meaning.
 #[repr(C)]
-#[derive(Drop)]
+#[derive(Clone, Copy)]
 pub struct Answer {
     pub code: u64,
     pub number: u64,

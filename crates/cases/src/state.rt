@@ -2,7 +2,7 @@
 use crate::tally::Tally;
 
 // What goes by value of a case. before: a digest of image, RAM, pad and file before the last run, search, save or load.
-#[derive(Drop)]
+#[derive(Clone, Copy)]
 pub(crate) struct Case {
     pub image_length: usize,
     pub ram_length: usize,

@@ -1,7 +1,7 @@
 // What has been compared, and what is printed of it.
 
 // What has been counted, and whether the case that runs has had no difference so far.
-#[derive(Drop)]
+#[derive(Clone, Copy)]
 pub(crate) struct Tally {
     pub cases: u64,
     pub values: u64,

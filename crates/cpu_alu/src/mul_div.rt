@@ -8,7 +8,7 @@ use words::shifts::low_word;
 use words::signed::to_signed;
 
 // The HI and LO registers.
-#[derive(Drop)]
+#[derive(Clone, Copy)]
 pub struct HiLo {
     pub hi: u32,
     pub lo: u32,

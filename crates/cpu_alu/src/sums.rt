@@ -6,7 +6,7 @@ use words::shifts::low_word;
 use words::signed::to_signed;
 
 // A sum or difference, or that it does not fit 32 signed bits: then the instruction traps.
-#[derive(Drop)]
+#[derive(Clone, Copy)]
 pub enum Sum {
     Value(u32),
     Overflow,

@@ -6,7 +6,7 @@ use words::signed::sign_extend_16;
 
 // What instructions take from their word beside the operation. extended is the immediate with its sign, offset four times that
 // (branches), target the word address of J and JAL times four.
-#[derive(Drop)]
+#[derive(Clone, Copy)]
 pub struct Fields {
     pub rt: usize,
     pub rd: usize,

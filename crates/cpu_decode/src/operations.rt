@@ -5,7 +5,7 @@ ghost use Rattle.tables.specs.Table.{lookup};
 ghost use Rattle.cpu_decode.specs.declared.operations.Op.TheVariants.{Reserved};
 
 // The 68 instructions, and Reserved for every other word.
-#[derive(Drop)]
+#[derive(Clone, Copy)]
 pub enum Op {
     Reserved,
     Sll,

@@ -3,7 +3,7 @@ ghost use Rattle.std.specs.Prelude.{◌≡◌};
 ghost use Rattle.cpu_decode.specs.Owners.{owner_of, number_of};
 
 // Whose instruction it is.
-#[derive(Drop)]
+#[derive(Clone, Copy)]
 pub enum Owner {
     Processor,
     Coprocessor0,

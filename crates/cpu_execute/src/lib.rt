@@ -19,7 +19,7 @@ use words::shifts::sra;
 use words::signed::to_signed;
 
 // What is left to do once the operands are read: one case for each way in which an instruction can change the machine.
-#[derive(Drop)]
+#[derive(Clone, Copy)]
 pub enum Effect {
     // register, value
     Write(usize, u32),

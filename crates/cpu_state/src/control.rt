@@ -6,7 +6,7 @@ use cpu_alu::mul_div::HiLo;
 use cpu_decode::owners::Owner;
 
 // PC, next PC, and 1 after a jump or branch (word 38).
-#[derive(Drop)]
+#[derive(Clone, Copy)]
 pub struct Flow {
     pub pc: u32,
     pub next: u32,
@@ -14,14 +14,14 @@ pub struct Flow {
 }
 
 // The load that waits: register 0 where there is none.
-#[derive(Drop)]
+#[derive(Clone, Copy)]
 pub struct Pending {
     pub register: u32,
     pub value: u32,
 }
 
 // Cop0: SR, CAUSE, EPC and BADV.
-#[derive(Drop)]
+#[derive(Clone, Copy)]
 pub struct System {
     pub sr: u32,
     pub cause: u32,
@@ -30,7 +30,7 @@ pub struct System {
 }
 
 // All of the machine that goes by value through a step; registers, COP2 words and RAM are lent.
-#[derive(Drop)]
+#[derive(Clone, Copy)]
 pub struct Control {
     pub flow: Flow,
     pub pending: Pending,

@@ -23,7 +23,7 @@ use memory::addresses::Virt;
 use memory::loads::{Loaded, fetch};
 
 // The control state after a step. stop: the machine stands before an unlisted COP2 command, as it was.
-#[derive(Drop)]
+#[derive(Clone, Copy)]
 pub struct Stepped {
     pub stop: bool,
     pub control: Control,

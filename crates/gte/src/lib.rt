@@ -20,7 +20,7 @@ use gte_shading::depth_cueing::{dcpl, dpcs, dpct, intpl};
 use gte_shading::interpolation::{gpf, gpl};
 
 // Carried out, or not listed: then nothing has changed.
-#[derive(Drop)]
+#[derive(Clone, Copy)]
 pub enum Outcome {
     Done,
     Unlisted,
@@ -41,7 +41,7 @@ pub fn bit_10(word: u32) -> bool
 }
 
 // CC, CDP, DPCT and NCCT, whose code is long.
-#[derive(Drop)]
+#[derive(Clone, Copy)]
 enum Long {
     Cc,
     Cdp,

@@ -6,21 +6,21 @@ ghost use Rattle.gte_arithmetic.specs.Checks.{raise};
 ghost use Rattle.gte_arithmetic.specs.Values.{lowest, ir_range, colour_range, depth_range, screen_range, factor_range, limit_flag, ir_of, sixteenth, colour_of, depth_of, screen_of, factor_of};
 
 // A value of 64 bits after a test, with the FLAG bits that the test sets.
-#[derive(Drop)]
+#[derive(Clone, Copy)]
 pub struct Limited {
     pub v: i64,
     pub flag: u32,
 }
 
 // A limited value of 16 signed bits (IR1..3, SX, SY) with its FLAG bit.
-#[derive(Drop)]
+#[derive(Clone, Copy)]
 pub struct Short {
     pub v: i16,
     pub flag: u32,
 }
 
 // A limited value that is never negative (colours, SZ3, OTZ, IR0, the quotient) with its FLAG bit.
-#[derive(Drop)]
+#[derive(Clone, Copy)]
 pub struct Level {
     pub v: u32,
     pub flag: u32,

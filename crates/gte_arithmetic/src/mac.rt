@@ -10,7 +10,7 @@ use crate::limits::Limited;
 use words::shifts::{low_signed, shift_12};
 
 // A value of 32 bits that was stored, and the bits that its test sets.
-#[derive(Drop)]
+#[derive(Clone, Copy)]
 pub struct Stored {
     pub v: i32,
     pub flag: u32,

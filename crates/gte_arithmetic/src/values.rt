@@ -1,7 +1,7 @@
 // What commands compute with: vectors, the camera, and what a line, a colour, a vertex and an average leave.
 
 // V0..V2, or IR1..3.
-#[derive(Drop)]
+#[derive(Clone, Copy)]
 pub struct Vector {
     pub x: i16,
     pub y: i16,
@@ -9,7 +9,7 @@ pub struct Vector {
 }
 
 // TR, BK, FC, or MAC1..3.
-#[derive(Drop)]
+#[derive(Clone, Copy)]
 pub struct Long {
     pub x: i32,
     pub y: i32,
@@ -17,7 +17,7 @@ pub struct Long {
 }
 
 // Three exact values.
-#[derive(Drop)]
+#[derive(Clone, Copy)]
 pub struct Wide {
     pub x: i64,
     pub y: i64,
@@ -25,7 +25,7 @@ pub struct Wide {
 }
 
 // What a line of MAC1..3 and IR1..3 leaves.
-#[derive(Drop)]
+#[derive(Clone, Copy)]
 pub struct Line {
     pub mac: Long,
     pub ir: Vector,
@@ -33,7 +33,7 @@ pub struct Line {
 }
 
 // What a colour command leaves: rgb goes into the colour FIFO.
-#[derive(Drop)]
+#[derive(Clone, Copy)]
 pub struct Shade {
     pub mac: Long,
     pub ir: Vector,
@@ -42,7 +42,7 @@ pub struct Shade {
 }
 
 // H (unsigned), the screen offset and the depth cueing of registers 56 to 60.
-#[derive(Drop)]
+#[derive(Clone, Copy)]
 pub struct Camera {
     pub h: u32,
     pub ofx: i32,
@@ -52,7 +52,7 @@ pub struct Camera {
 }
 
 // What one part of RTPS or RTPT leaves.
-#[derive(Drop)]
+#[derive(Clone, Copy)]
 pub struct Vertex {
     pub mac0: i32,
     pub mac: Long,
@@ -64,14 +64,14 @@ pub struct Vertex {
 }
 
 // A point of the screen.
-#[derive(Drop)]
+#[derive(Clone, Copy)]
 pub struct Corner {
     pub x: i16,
     pub y: i16,
 }
 
 // What AVSZ3 and AVSZ4 leave.
-#[derive(Drop)]
+#[derive(Clone, Copy)]
 pub struct Average {
     pub mac0: i32,
     pub otz: u32,

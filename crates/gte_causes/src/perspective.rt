@@ -104,7 +104,7 @@ fn list_third(out: &mut [u32], n: usize, a: Wanted, x: i64) -> usize
 }
 
 // What lines 5 to 7 read of the lines before them.
-#[derive(Drop)]
+#[derive(Clone, Copy)]
 struct Earlier {
     pub sz: u32,
     pub ir1: i16,

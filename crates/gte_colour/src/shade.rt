@@ -12,14 +12,14 @@ use gte_arithmetic::values::{Long, Shade, Vector, Wide};
 use gte_line::{finish, finish_one};
 
 // MAC+(FC-MAC)·IR0, exact.
-#[derive(Drop)]
+#[derive(Clone, Copy)]
 pub struct Mixed {
     pub v: Wide,
     pub flag: u32,
 }
 
 // One of three colours.
-#[derive(Drop)]
+#[derive(Clone, Copy)]
 struct Channel {
     pub mac: i32,
     pub ir: i16,

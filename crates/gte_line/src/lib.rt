@@ -13,7 +13,7 @@ use gte_arithmetic::mac::{shift, store_mac, within};
 use gte_arithmetic::values::{Line, Long, Vector, Wide};
 
 // One of the three MAC and IR of a line, with the FLAG bits of their tests.
-#[derive(Drop)]
+#[derive(Clone, Copy)]
 pub struct Cell {
     pub mac: i32,
     pub ir: i16,

@@ -12,7 +12,7 @@ use gte_line::finish_one;
 use words::shifts::{low_signed, shift_12};
 
 // What lines 3 and 4 give.
-#[derive(Drop)]
+#[derive(Clone, Copy)]
 struct Third {
     pub mac: i32,
     pub ir: i16,
@@ -90,7 +90,7 @@ pub fn project(s: Wide, k: Camera, sf: bool) -> Vertex
 
 // Lines 1 to 4 with sf = 1 where they set no bit and the quotient does not overflow: x, y and z are then MAC1..3 and IR1..3, and
 // sz is SZ3.
-#[derive(Drop)]
+#[derive(Clone, Copy)]
 pub struct Front {
     pub clear: bool,
     pub x: i16,

@@ -11,7 +11,7 @@ use words::shifts::{shift_12, shift_16};
 use words::signed::to_bits;
 
 // What lines 5 to 7 give.
-#[derive(Drop)]
+#[derive(Clone, Copy)]
 pub struct Screen {
     pub mac0: i32,
     pub xy: u32,
@@ -20,7 +20,7 @@ pub struct Screen {
 }
 
 // What line 7 gives.
-#[derive(Drop)]
+#[derive(Clone, Copy)]
 pub struct Factor {
     pub mac0: i32,
     pub ir0: u32,
@@ -118,7 +118,7 @@ pub fn to_screen(k: Camera, sz: u32, ir1: i16, ir2: i16) -> Screen
 }
 
 // Lines 5 and 6 where they set no bit: SX and SY in one word.
-#[derive(Drop)]
+#[derive(Clone, Copy)]
 pub struct Point {
     pub clear: bool,
     pub xy: u32,

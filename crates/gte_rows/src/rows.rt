@@ -6,7 +6,7 @@ ghost use Rattle.gte_rows.specs.Listing.{listing, add_row};
 use words::shifts::low_word;
 
 // Which rows are listed: those of a bit of FLAG, in a part of a triple.
-#[derive(Drop)]
+#[derive(Clone, Copy)]
 pub struct Wanted {
     pub bit: u32,
     pub part: u32,

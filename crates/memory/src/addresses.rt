@@ -3,15 +3,15 @@ ghost use Rattle.std.specs.Prelude.{◌≡◌, ◌+◌, ◌*◌, ◌/◌, ◌%�
 ghost use Rattle.memory.specs.Addresses.{ram_length, mapped, pad_base, pad_length, in_pad, beyond_ram, segment_of, place_of, direct_of};
 
 // A virtual address: PC, or a base plus an offset.
-#[derive(Drop)]
+#[derive(Clone, Copy)]
 pub struct Virt(pub u32);
 
 // A physical address: a place among RAM's bytes, or in the scratch pad.
-#[derive(Drop)]
+#[derive(Clone, Copy)]
 pub struct Phys(pub u32);
 
 // Where a virtual address lies: in RAM, in the scratch pad, a bus error, or an address error.
-#[derive(Drop)]
+#[derive(Clone, Copy)]
 pub enum Place {
     Ram(Phys),
     Pad(Phys),
@@ -20,7 +20,7 @@ pub enum Place {
 }
 
 // A word that one test finds in RAM, or not: then `locate` tells where it lies.
-#[derive(Drop)]
+#[derive(Clone, Copy)]
 pub(crate) enum Direct {
     At(Phys),
     Elsewhere,

@@ -9,7 +9,7 @@ use byte_order::word_at;
 use words::signed::{sign_extend_8, sign_extend_16};
 
 // The seven loads of MIPS I: how much is read, how it is extended, or (Left, Right) merged.
-#[derive(Drop)]
+#[derive(Clone, Copy)]
 pub enum LoadKind {
     Byte,
     ByteUnsigned,
@@ -21,7 +21,7 @@ pub enum LoadKind {
 }
 
 // What a load answers: the register's new value, or which error it takes.
-#[derive(Drop)]
+#[derive(Clone, Copy)]
 pub enum Loaded {
     Value(u32),
     Bus,

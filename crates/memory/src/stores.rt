@@ -9,7 +9,7 @@ use crate::addresses::{Place, Virt, beyond_ram, locate};
 use byte_order::put_word;
 
 // The five stores of MIPS I.
-#[derive(Drop)]
+#[derive(Clone, Copy)]
 pub enum StoreKind {
     Byte,
     Half,
@@ -19,7 +19,7 @@ pub enum StoreKind {
 }
 
 // What a store answers: done, or which error it takes; then memory is as it was.
-#[derive(Drop)]
+#[derive(Clone, Copy)]
 pub enum Stored {
     Done,
     Bus,

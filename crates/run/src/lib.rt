@@ -16,7 +16,7 @@ use cpu_step::step;
 use gte_registers::reads::read;
 
 // code: 0 where count steps are done, 5 before an unlisted COP2 command, 16 where a bit has come up.
-#[derive(Drop)]
+#[derive(Clone, Copy)]
 pub struct Sought {
     pub code: u64,
     pub steps: u64,

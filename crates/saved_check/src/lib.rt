@@ -8,14 +8,14 @@ ghost use Rattle.saved_format.specs.Tails.{Nothing, End, Pad, Ram, Geometry};
 ghost use Rattle.saved_check.specs.Check.{Least, FieldAt, Judged, Checked};
 
 // What a check of a file finds: that it is well formed, or the length of the longest beginning that it shares with some well-formed file.
-#[derive(Drop)]
+#[derive(Clone, Copy)]
 pub enum Verdict {
     Formed,
     Malformed(usize),
 }
 
 // A field at a place: the place past it, or how far the file can be read as a well-formed one.
-#[derive(Drop)]
+#[derive(Clone, Copy)]
 pub(crate) enum Step {
     Past(usize),
     Stop(usize),

@@ -10,7 +10,7 @@ ghost use Rattle.window.specs.Window.{nothing, part_from, good_lengths, part_of,
 use memory::addresses::{Place, Virt, ram_length, translate};
 
 // A part of RAM, or of the pad: where it begins, and how long it is.
-#[derive(Drop)]
+#[derive(Clone, Copy)]
 pub struct Part {
     pub pad: bool,
     pub at: usize,

@@ -1,0 +1,9 @@
+-- The table and its definition compute to the same 256 bytes.
+use borrow.Author.Rules.{rules}
+use mathlib.Core.Path.{refl}
+use Rattle.draw_list.specs.Packets.{packets, shape_of}
+use Rattle.draw_list.specs.Widths.{fixed_of, fixed_from}
+use Rattle.draw_list.proofs.fixed_widths.Goals as goal
+
+pub returns : goal.returns
+returns c = refl
