@@ -4,7 +4,9 @@ use Rattle.cpu_alu.specs.MulDiv.{unsigned_quotient_of}
 use Rattle.cpu_alu.proofs.mul_div.divide_unsigned.Goals as goal
 
 pub returns-then-b-eq0 : goal.returns-then-b-eq0
+unfolding unsigned_quotient_of
 returns-then-b-eq0 c = rw (eq-eqb c.args.b 0 c.if-b-eq0.true)
 
 pub returns : goal.returns
+unfolding unsigned_quotient_of
 returns c = rw (ne_eqb c.args.b 0 c.if-b-eq0.false)

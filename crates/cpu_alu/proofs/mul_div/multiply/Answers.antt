@@ -5,8 +5,6 @@ use Rattle.cpu_alu.proofs.mul_div.multiply.Goals as goal
 
 pub returns-then-signed : goal.returns-then-signed
 returns-then-signed c =
-    let u = c in
-    let s = u in
     rw c.if-signed.true
-    (signed_words s.args.a s.args.b u.multiply_unsigned-p.result _ _ _ _ s.ranges.a.fits s.ranges.b.fits u.multiply_unsigned-p.ensures
-    c.where_negative.ensures c.where_negative-then-signed.ensures c.wrapping_sub_u32-part.ensures c.wrapping_sub_u32.ensures (omega arith))
+    (signed_words c.args.a c.args.b c.multiply_unsigned-p.result _ _ _ _ c.ranges.a.fits c.ranges.b.fits c.multiply_unsigned-p.ensures
+    c.where_negative.ensures c.where_negative-then-signed.ensures c.wrapping_sub_u32-part.ensures.value c.wrapping_sub_u32.ensures.value (omega arith))

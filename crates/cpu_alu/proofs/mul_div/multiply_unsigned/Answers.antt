@@ -5,7 +5,5 @@ use Rattle.cpu_alu.proofs.mul_div.multiply_unsigned.Goals as goal
 
 pub returns : goal.returns
 returns c =
-    let t = c in
-    let s = t in
-    unsigned_words s.args.a s.args.b t.times-low.result t.times-middle.result t.times-other.result t.times-high.result c.wrapping_add_u32-part.result c.carry.result c.carry-2.result c.wrapping_add_u32.result
-    t.times-low.ensures t.times-middle.ensures t.times-other.ensures t.times-high.ensures c.wrapping_add_u32-part.ensures c.carry.ensures c.carry-2.ensures c.wrapping_add_u32.ensures
+    unsigned_words c.args.a c.args.b c.times-low.result c.times-middle.result c.times-other.result c.times-high.result c.wrapping_add_u32-part.result c.carry.result c.carry-2.result c.wrapping_add_u32.result
+    c.times-low.ensures c.times-middle.ensures c.times-other.ensures c.times-high.ensures c.wrapping_add_u32-part.ensures.value c.carry.ensures c.carry-2.ensures c.wrapping_add_u32.ensures.value

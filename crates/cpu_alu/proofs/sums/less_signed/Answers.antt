@@ -5,14 +5,18 @@ use Rattle.integers.specs.Bound.{back}
 use Rattle.cpu_alu.specs.Alu.{less_of}
 use Rattle.cpu_alu.proofs.sums.less_signed.Goals as goal
 
-test : (c : tie.After-to-signed2) → let a = c.args in lt_z (to_z w32 a.a) (to_z w32 a.b) ≡ lt_z (to_z w32 (of_z w32 c.to_signed-x.result)) (to_z w32 (of_z w32 c.to_signed-y.result))
-test c =
-    let a = c.to_signed-x in
-    let b = c.to_signed-y in
-    rw (back w32 a.result a.type_inv, back w32 b.result b.type_inv, a.ensures, b.ensures)
-
 pub returns-then-x-y : goal.returns-then-x-y
-returns-then-x-y c = rw (test c, c.if-x-y.true)
+unfolding less_of
+returns-then-x-y c =
+    let test : (let a = c.args in lt_z (to_z w32 a.a) (to_z w32 a.b) ≡ lt_z (to_z w32 (of_z w32 c.to_signed-x.result)) (to_z w32 (of_z w32 c.to_signed-y.result))) = let a = c.to_signed-x in
+    let b = c.to_signed-y in
+    rw (back w32 a.result a.type_inv, back w32 b.result b.type_inv, a.ensures, b.ensures) in
+    rw (test, c.if-x-y.true)
 
 pub returns-else-x-y : goal.returns-else-x-y
-returns-else-x-y c = rw (test c, c.if-x-y.false)
+unfolding less_of
+returns-else-x-y c =
+    let test : (let a = c.args in lt_z (to_z w32 a.a) (to_z w32 a.b) ≡ lt_z (to_z w32 (of_z w32 c.to_signed-x.result)) (to_z w32 (of_z w32 c.to_signed-y.result))) = let a = c.to_signed-x in
+    let b = c.to_signed-y in
+    rw (back w32 a.result a.type_inv, back w32 b.result b.type_inv, a.ensures, b.ensures) in
+    rw (test, c.if-x-y.false)

@@ -5,17 +5,12 @@ use Rattle.cpu_alu.specs.Alu.{difference_of}
 use Rattle.cpu_alu.proofs.Operands.{widen, wide, difference_fits}
 use Rattle.cpu_alu.proofs.sums.sub_signed.Goals as goal
 
-first : (c : tie.After-to-signed) → SFits w32 c.to_signed.result
-first c = sfits_of c.to_signed.type_inv
-
-second : (c : tie.After-to-signed2) → SFits w32 c.to_signed-2.result
-second c = sfits_of c.to_signed-2.type_inv
-
 pub returns : goal.returns
 unfolding difference_of
 returns c =
-    let s = c in
-    let f = first s in
-    let g = second s in
+    let first : SFits w32 c.to_signed.result = sfits_of c.to_signed.type_inv in
+    let second : SFits w32 c.to_signed-2.result = sfits_of c.to_signed-2.type_inv in
+    let f = first in
+    let g = second in
     c.fitting.ensures
-    ∙ rw (wide f, wide g, to_z-of_z (difference_fits f g), s.to_signed.ensures, s.to_signed-2.ensures)
+    ∙ rw (wide f, wide g, to_z-of_z (difference_fits f g), c.to_signed.ensures, c.to_signed-2.ensures)

@@ -5,16 +5,21 @@ use Rattle.cpu_decode.specs.Decode.{conditions}
 use Rattle.cpu_decode.proofs.operations.condition.Goals as goal
 
 pub returns-in-0 : goal.returns-in-0
-returns-in-0 c = rw c.in_default.keys1
+unfolding conditions NoneOf
+returns-in-0 c = rw c.in-0.is
 
 pub returns-in-1 : goal.returns-in-1
-returns-in-1 c = rw c.in_default.keys2
+unfolding conditions NoneOf
+returns-in-1 c = rw c.in-1.is
 
 pub returns-in-16 : goal.returns-in-16
-returns-in-16 c = rw c.in_default.keys3
+unfolding conditions NoneOf
+returns-in-16 c = rw c.in-16.is
 
 pub returns-in-17 : goal.returns-in-17
-returns-in-17 c = rw c.in_default.keys4
+unfolding conditions NoneOf
+returns-in-17 c = rw c.in-17.is
 
 pub returns-in_default : goal.returns-in_default
-returns-in_default c = sym (lookup_none conditions _ _ Unit c.in_default.rest)
+unfolding conditions NoneOf
+returns-in_default c = sym (lookup_none conditions _ _ Unit c.in_default.in_default-own.rest)

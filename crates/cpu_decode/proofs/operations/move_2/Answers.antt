@@ -5,16 +5,21 @@ use Rattle.cpu_decode.specs.Decode.{moves2}
 use Rattle.cpu_decode.proofs.operations.move_2.Goals as goal
 
 pub returns-in-0 : goal.returns-in-0
-returns-in-0 c = rw c.in_default.keys1
+unfolding moves2 NoneOf
+returns-in-0 c = rw c.in-0.is
 
 pub returns-in-2 : goal.returns-in-2
-returns-in-2 c = rw c.in_default.keys2
+unfolding moves2 NoneOf
+returns-in-2 c = rw c.in-2.is
 
 pub returns-in-4 : goal.returns-in-4
-returns-in-4 c = rw c.in_default.keys3
+unfolding moves2 NoneOf
+returns-in-4 c = rw c.in-4.is
 
 pub returns-in-6 : goal.returns-in-6
-returns-in-6 c = rw c.in_default.keys4
+unfolding moves2 NoneOf
+returns-in-6 c = rw c.in-6.is
 
 pub returns-in_default : goal.returns-in_default
-returns-in_default c = sym (lookup_none moves2 _ _ Unit c.in_default.rest)
+unfolding moves2 NoneOf
+returns-in_default c = sym (lookup_none moves2 _ _ Unit c.in_default.in_default-own.rest)

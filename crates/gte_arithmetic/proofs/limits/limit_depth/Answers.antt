@@ -12,12 +12,13 @@ use Rattle.gte_arithmetic.specs.Values.{depth_of}
 use Rattle.gte_arithmetic.proofs.Levels.{level}
 use Rattle.gte_arithmetic.proofs.limits.limit_depth.Goals as goal
 
-is_l : (c : tie.After-limit) → let a = c.args in c.limit-l.result ≡ record { v = clamp (pos 0) (pos 0xffff) a.z; flag = raise (outside (pos 0) (pos 0xffff) a.z) 0x4_0000 }
-is_l c = rw (to_z-of_z c.ranges.z) at c.limit-l.ensures
-
 pub overflow_cast-result : goal.overflow_cast-result
-overflow_cast-result c = rw (back w64 c.limit-l.result.v c.struct_told-1.given.0.1, is_l c) (level 0xffff _ (lit< tt))
+overflow_cast-result c =
+    let is_l : (let a = c.args in c.limit-l.result ≡ record { v = clamp (pos 0) (pos 0xffff) a.z; flag = raise (outside (pos 0) (pos 0xffff) a.z) 0x4_0000 }) = rw (to_z-of_z c.ranges.z) at c.limit-l.ensures in
+    rw (back w64 c.limit-l.result.v c.struct_told-1.given.0.1, is_l) (level 0xffff _ (lit< tt))
 
 pub returns : goal.returns
 unfolding depth_of
-returns c = rw (back w64 c.limit-l.result.v c.struct_told-1.given.0.1, is_l c)
+returns c =
+    let is_l : (let a = c.args in c.limit-l.result ≡ record { v = clamp (pos 0) (pos 0xffff) a.z; flag = raise (outside (pos 0) (pos 0xffff) a.z) 0x4_0000 }) = rw (to_z-of_z c.ranges.z) at c.limit-l.ensures in
+    rw (back w64 c.limit-l.result.v c.struct_told-1.given.0.1, is_l)

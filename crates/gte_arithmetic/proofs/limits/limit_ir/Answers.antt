@@ -17,17 +17,17 @@ ir_fits : (lm : Bool) (z : ℤ) → SFits w16 (clamp (lowest lm) (pos 0x7fff) z)
 ir_fits true z = fit w16 (clamp_mag (pos 0) (pos 0x7fff) z (mag_le (mag_pos 0) (lit≤ tt)) (mag_pos 0x7fff)) tt
 ir_fits false z = fit w16 (clamp_mag (negsuc 0x7fff) (pos 0x7fff) z (mag_negsuc 0x7fff) (mag_pos 0x7fff)) tt
 
-is_l : (c : tie.After-limit) → let a = c.args in c.limit-l.result ≡ record { v = clamp (lowest a.lm) (pos 0x7fff) a.m; flag = raise (outside (lowest a.lm) (pos 0x7fff) a.m) a.bit }
-is_l c =
-    let s = c in
-    rw (back w64 c.lowest_ir.result c.lowest_ir.type_inv, c.lowest_ir.ensures, to_z-of_z s.ranges.m, to_z-of_z {w = w64} (sfits_widen tt s.ranges.m)) at c.limit-l.ensures
-
-ir : (c : tie.After-limit) → SFits w16 c.limit-l.result.v
-ir c = let a = c.args in rw (is_l c) (ir_fits a.lm a.m)
-
 pub overflow_cast-result : goal.overflow_cast-result
-overflow_cast-result c = rw (back w64 c.limit-l.result.v c.struct_told-1.given.0.1) (ir c)
+overflow_cast-result c =
+    let is_l : (let a = c.args in c.limit-l.result ≡ record { v = clamp (lowest a.lm) (pos 0x7fff) a.m; flag = raise (outside (lowest a.lm) (pos 0x7fff) a.m) a.bit }) = let s = c in
+    rw (back w64 c.lowest_ir.result c.lowest_ir.type_inv, c.lowest_ir.ensures, to_z-of_z s.ranges.m, to_z-of_z {w = w64} (sfits_widen tt s.ranges.m)) at c.limit-l.ensures in
+    let ir : SFits w16 c.limit-l.result.v = let a = c.args in rw is_l (ir_fits a.lm a.m) in
+    rw (back w64 c.limit-l.result.v c.struct_told-1.given.0.1) ir
 
 pub returns : goal.returns
 unfolding ir_of
-returns c = rw (back w64 c.limit-l.result.v c.struct_told-1.given.0.1, to_z-of_z (ir c), is_l c)
+returns c =
+    let is_l : (let a = c.args in c.limit-l.result ≡ record { v = clamp (lowest a.lm) (pos 0x7fff) a.m; flag = raise (outside (lowest a.lm) (pos 0x7fff) a.m) a.bit }) = let s = c in
+    rw (back w64 c.lowest_ir.result c.lowest_ir.type_inv, c.lowest_ir.ensures, to_z-of_z s.ranges.m, to_z-of_z {w = w64} (sfits_widen tt s.ranges.m)) at c.limit-l.ensures in
+    let ir : SFits w16 c.limit-l.result.v = let a = c.args in rw is_l (ir_fits a.lm a.m) in
+    rw (back w64 c.limit-l.result.v c.struct_told-1.given.0.1, to_z-of_z ir, is_l)

@@ -11,15 +11,15 @@ use Rattle.gte_arithmetic.specs.Checks.{raise}
 use Rattle.gte_arithmetic.specs.Values.{screen_of}
 use Rattle.gte_arithmetic.proofs.limits.limit_screen.Goals as goal
 
-is_l : (c : tie.After-limit) → let a = c.args in c.limit-l.result ≡ record { v = clamp (negsuc 0x3ff) (pos 0x3ff) a.x; flag = raise (outside (negsuc 0x3ff) (pos 0x3ff) a.x) a.bit }
-is_l c = rw (to_z-of_z c.ranges.x) at c.limit-l.ensures
-
-short : (c : tie.After-limit) → SFits w16 c.limit-l.result.v
-short c = rw (is_l c) (fit w16 (clamp_mag (negsuc 0x3ff) (pos 0x3ff) _ (mag_negsuc 0x3ff) (mag_pos 0x3ff)) tt)
-
 pub overflow_cast-result : goal.overflow_cast-result
-overflow_cast-result c = rw (back w64 c.limit-l.result.v c.struct_told-1.given.0.1) (short c)
+overflow_cast-result c =
+    let is_l : (let a = c.args in c.limit-l.result ≡ record { v = clamp (negsuc 0x3ff) (pos 0x3ff) a.x; flag = raise (outside (negsuc 0x3ff) (pos 0x3ff) a.x) a.bit }) = rw (to_z-of_z c.ranges.x) at c.limit-l.ensures in
+    let short : SFits w16 c.limit-l.result.v = rw is_l (fit w16 (clamp_mag (negsuc 0x3ff) (pos 0x3ff) _ (mag_negsuc 0x3ff) (mag_pos 0x3ff)) tt) in
+    rw (back w64 c.limit-l.result.v c.struct_told-1.given.0.1) short
 
 pub returns : goal.returns
 unfolding screen_of
-returns c = rw (back w64 c.limit-l.result.v c.struct_told-1.given.0.1, to_z-of_z (short c), is_l c)
+returns c =
+    let is_l : (let a = c.args in c.limit-l.result ≡ record { v = clamp (negsuc 0x3ff) (pos 0x3ff) a.x; flag = raise (outside (negsuc 0x3ff) (pos 0x3ff) a.x) a.bit }) = rw (to_z-of_z c.ranges.x) at c.limit-l.ensures in
+    let short : SFits w16 c.limit-l.result.v = rw is_l (fit w16 (clamp_mag (negsuc 0x3ff) (pos 0x3ff) _ (mag_negsuc 0x3ff) (mag_pos 0x3ff)) tt) in
+    rw (back w64 c.limit-l.result.v c.struct_told-1.given.0.1, to_z-of_z short, is_l)

@@ -19,22 +19,28 @@ is_below : (x : ℤ) → lt_z x (negsuc 2147483647) ≡ true → lt_z (pos 21474
 unfolding pos_part neg_part
 is_below x t = no_lt {a = pos 2147483647} {b = x} (omega zarith)
 
-is_v : (c : tie.After-low-signed) → to_z w32 (of_z w32 c.low_signed-v.result) ≡ wrap (2 ^ 31) c.args.x
-is_v c = back w32 _ c.low_signed-v.type_inv ∙ c.low_signed-v.ensures ∙ ap (wrap (2 ^ 31)) (to_z-of_z c.ranges.x)
-
 pub returns-then-x-ltminus2147483648 : goal.returns-then-x-ltminus2147483648
-returns-then-x-ltminus2147483648 c = let s = c in
+unfolding mac0_flag
+returns-then-x-ltminus2147483648 c =
+    let is_v : to_z w32 (of_z w32 c.low_signed-v.result) ≡ wrap (2 ^ 31) c.args.x = back w32 _ c.low_signed-v.type_inv ∙ c.low_signed-v.ensures ∙ ap (wrap (2 ^ 31)) (to_z-of_z c.ranges.x) in
+    let s = c in
     let t = rw (to_z-of_z s.ranges.x) at c.if-x-ltminus2147483648.true in
-    rw (is_v c, is_below s.args.x t, t, none_or)
+    rw (is_v, is_below s.args.x t, t, none_or)
 
 pub returns-then-x-gt2147483647 : goal.returns-then-x-gt2147483647
-returns-then-x-gt2147483647 c = let s = c in
+unfolding mac0_flag
+returns-then-x-gt2147483647 c =
+    let is_v : to_z w32 (of_z w32 c.low_signed-v.result) ≡ wrap (2 ^ 31) c.args.x = back w32 _ c.low_signed-v.type_inv ∙ c.low_signed-v.ensures ∙ ap (wrap (2 ^ 31)) (to_z-of_z c.ranges.x) in
+    let s = c in
     let u = rw (to_z-of_z s.ranges.x) at c.if-x-ltminus2147483648.false in
     let t = rw (to_z-of_z s.ranges.x) at c.if-x-gt2147483647.true in
-    rw (is_v c, t, u, or_none)
+    rw (is_v, t, u, or_none)
 
 pub returns-else-x-gt2147483647 : goal.returns-else-x-gt2147483647
-returns-else-x-gt2147483647 c = let s = c in
+unfolding mac0_flag
+returns-else-x-gt2147483647 c =
+    let is_v : to_z w32 (of_z w32 c.low_signed-v.result) ≡ wrap (2 ^ 31) c.args.x = back w32 _ c.low_signed-v.type_inv ∙ c.low_signed-v.ensures ∙ ap (wrap (2 ^ 31)) (to_z-of_z c.ranges.x) in
+    let s = c in
     let u = rw (to_z-of_z s.ranges.x) at c.if-x-ltminus2147483648.false in
     let t = rw (to_z-of_z s.ranges.x) at c.if-x-gt2147483647.false in
-    rw (is_v c, t, u, or_none)
+    rw (is_v, t, u, or_none)

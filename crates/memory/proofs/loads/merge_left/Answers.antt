@@ -5,8 +5,7 @@ use native.Mathlib.Omega.{arith}
 use borrow.Author.Rules.{rules}
 use Rattle.memory.specs.Loads.{left_of}
 use Rattle.memory.proofs.Places.{last_of_four}
-use Rattle.memory.proofs.loads.merge_left.Statement.{statement}
-use Rattle.memory.proofs.loads.merge_left.Tie as tie
+use Rattle.memory.proofs.loads.merge_left.Goals as goal
 
 byte : (w old : ℕ) → w % 256 * 16777216 + old % 16777216 ≡ left_of w old 0
 unfolding left_of
@@ -24,17 +23,14 @@ word : (w old : ℕ) → w < 4294967296 → w ≡ left_of w old 3
 unfolding left_of
 word w old h = omega arith
 
-pub merge_left_spec : {M : Type 1} → statement M
-merge_left_spec =
-    tie.close
-    (tie.spec
-    (λ c. search rules)
-    (λ c. search rules)
-    (λ c. search rules)
-    (λ c. search rules)
-    (λ c. search rules)
-    (λ c. search rules)
-    (λ c. rw c.match.keys1 (byte _ _))
-    (λ c. rw c.match.keys2 (half _ _))
-    (λ c. rw c.match.keys3 (three _ _))
-    (λ c. let r = c.match.rest in rw (last_of_four _ c.before.requires r.0.0.1 r.0.1 r.1) (word _ _ c.before.ranges.word.fits)))
+pub returns-in-0 : goal.returns-in-0
+returns-in-0 c = rw c.in-0.is (byte _ _)
+
+pub returns-in-1 : goal.returns-in-1
+returns-in-1 c = rw c.in-1.is (half _ _)
+
+pub returns-in-2 : goal.returns-in-2
+returns-in-2 c = rw c.in-2.is (three _ _)
+
+pub returns-in_default : goal.returns-in_default
+returns-in_default c = let r = c.in_default.in_default-own.rest in rw (last_of_four _ c.requires r.0.0.1 r.0.1 r.1) (word _ _ c.ranges.word.fits)
