@@ -45,7 +45,7 @@ def from_kit(text, own):
 
 def turn(text, table, path, comments):
     """The text with each name of the table turned; of a comment only what stands in backticks or is camelCase."""
-    said = []
+    aliases = set(re.findall(r"(?m)^use \S+ as (\S+)$", text)) - {"tie", "goal"}
 
     def code(part, is_comment):
         out, at = [], 0
@@ -68,7 +68,7 @@ def turn(text, table, path, comments):
                     continue
                 if dotted and not camel and not is_field:
                     head = re.search(r'([^\s(){}.;,@"«»`]+)\.$', part[: m.start()])
-                    if not (head and head[1][:1].isupper()):
+                    if not (head and (head[1][:1].isupper() or head[1] in aliases)):
                         continue
                 out += [part[at : m.start()], lead, new, tail]
                 at = m.end()

@@ -92,12 +92,12 @@ by_one a = omega arith
 
 in_ram : (a len : ℕ) (p : Phys) → segment_of a len ≡ Ram p → (p.0 ≡ a % 0x2000_0000) × InRam len a
 in_ram a len p e =
-    let t : places.InRam a 1 len p = rw e at (places.segment-tells a 1 len (by_one a)) in
+    let t : places.InRam a 1 len p = rw e at (places.segment_tells a 1 len (by_one a)) in
     (t.is, record { segment = t.reached; above = omega arith; below = rw (← t.is) t.below })
 
 in_pad_lem : (a len : ℕ) (p : Phys) → segment_of a len ≡ Pad p → (p.0 ≡ a % 0x2000_0000) × InPad a
 in_pad_lem a len p e =
-    let b : places.Beyond a 1 (Pad p) = rw e at (places.segment-tells a 1 len (by_one a)) in
+    let b : places.Beyond a 1 (Pad p) = rw e at (places.segment_tells a 1 len (by_one a)) in
     let t = places.in_pad_lem a p b.is in
     (t.is, record { segment = t.reached; above = rw (← t.is) t.above; below = rw (← t.is) t.below })
 

@@ -1,0 +1,15 @@
+-- The rows of the sum, then that of IR from the stored value.
+use borrow.Author.Rules.{rules}
+use native.Mathlib.Omega.{arith}
+use mir.Syntax.{w32, w64}
+use mir.Facts.{to_z-of_z, sfits_widen}
+use Rattle.integers.specs.Bound.{back}
+use Rattle.gte_rows.proofs.Listings.{then}
+use Rattle.gte_rows.proofs.checks.list_cell.Goals as goal
+
+pub returns-clause-is : goal.returns-clause-is
+returns-clause-is c = let m = c.store_mac-m.result.v in
+    let h = c.struct_told-1.given.0.1 in
+    let u = rw (to_z-of_z c.ranges.x) at c.list_sum-p.ensures.is in
+    let v = rw (back w32 m h, to_z-of_z {w = w64} (sfits_widen {w = w32} tt (record { sfits = h })), c.store_mac-m.ensures, to_z-of_z c.ranges.y) at c.list_ir.ensures.is in
+    then u v

@@ -1,0 +1,13 @@
+-- The three bytes of the word.
+use borrow.Author.Rules.{rules}
+use Rattle.gte_sums.specs.Tones.{levels_of}
+use Rattle.gte_sums.proofs.Three.{three}
+use Rattle.gte_sums.proofs.tones.levels.Goals as goal
+
+pub returns-clause-is : goal.returns-clause-is
+unfolding levels_of
+returns-clause-is c =
+    (three tt tt
+    (c.level.ensures.is, c.level.ensures.small)
+    (c.level-2.ensures.is, c.level-2.ensures.small)
+    (c.level-3.ensures.is, c.level-3.ensures.small)).0

@@ -1,0 +1,18 @@
+-- The loop keeps that the verdict on the file from `at` on is the verdict from `from` on.
+use Prim.Native.Nat.{◌-◌, ◌≤◌}
+use native.Mathlib.Omega.{arith}
+use borrow.Author.Rules.{rules}
+use borrow.Author.Tests.{not-true, not-false}
+use mathlib.Core.Path.{sym, ◌∙◌}
+use lib.ListN.{length}
+use Rattle.saved_format.specs.Tails.{Ram}
+use Rattle.saved_check.specs.Check.{Judged}
+use Rattle.saved_check.specs.declared.Verdict.{Verdict}
+use Rattle.saved_check.proofs.Judging.{placed, ram_last, ram_more, ram_stop}
+use Rattle.saved_check.proofs.ram_at.Given as goal
+
+abbrev pub invariant-loop-next : goal.invariant-loop-next
+invariant-loop-next l = (l.at ≤ length l.file) × ((v : Verdict) → Judged Ram l.file l.at v → Judged Ram l.file l.from v)
+
+abbrev pub decreases-loop-next : goal.decreases-loop-next
+decreases-loop-next l = length l.file - l.at

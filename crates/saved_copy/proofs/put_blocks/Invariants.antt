@@ -1,0 +1,14 @@
+-- The loop keeps that the blocks that are left give all of them.
+use Prim.Native.Nat.{◌+◌, ◌-◌}
+use native.Mathlib.Omega.{arith}
+use mathlib.Core.Path.{refl, ap, ◌∙◌}
+use lib.ListN.{length, length-take, length-drop}
+use lib.Seq.{length-sets}
+use Rattle.saved_copy.proofs.Blocks.{Putting, putting_none, putting_more, putting_all}
+use Rattle.saved_copy.proofs.put_blocks.Given as goal
+
+abbrev pub invariant-loop-done : goal.invariant-loop-done
+invariant-loop-done l = Putting l.initial.out l.out l.from l.at l.ram l.done
+
+abbrev pub decreases-loop-done : goal.decreases-loop-done
+decreases-loop-done l = length l.ram - l.done
