@@ -1,7 +1,7 @@
 -- How far the hardware's quotient lies from the printed one, and from H·65,536/SZ3 itself.
 use mathlib.Core.Bool.{Bool, ◌&&◌}
 use mathlib.Core.Path.{◌≡◌, refl}
-use Prim.Native.Nat.{ℕ, zero, ◌+◌, ◌*◌, ◌-◌, ◌/◌, ◌^◌, ◌≤◌, ◌<◌, min}
+use Prim.Native.Nat.{ℕ, zero, ◌+◌, ◌*◌, ◌/◌, ◌^◌, ◌≤◌, ◌<◌, min}
 use native.Mathlib.Decide.{dec_lt}
 use native.Mathlib.Nat.{mul_assoc, mul_comm, mul_left_comm, add-mul, mul-le-mul_right, mul-le-mul_left, div-mul-le_self, div-add-mod', mod-lt}
 use native.Mathlib.Omega.{arith}

@@ -1,5 +1,4 @@
 -- Each branch adds what its case of the condition asks.
-use Rattle.std.proofs.Common.{rules}
 use Rattle.cpu_execute.specs.Execute.{target_of}
 use Rattle.cpu_execute.proofs.branch_target.Goals as goal
 

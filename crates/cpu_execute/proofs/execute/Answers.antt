@@ -1,10 +1,10 @@
 -- Each arm does what the specification says of its instruction, with the results of the functions it calls.
-use Rattle.std.proofs.Common.{ap, inl, inr, rules}
+use Rattle.std.proofs.Common.{ap, inl, inr}
 use Rattle.cpu_execute.specs.Execute.{execute_of}
 use Rattle.cpu_alu.proofs.Words.{difference}
 use Rattle.cpu_execute.specs.declared.Effect.TheVariants.{Product}
-use Rattle.cpu_execute.proofs.Products.{other_product}
 use Rattle.cpu_execute.proofs.execute.Goals as goal
+use Rattle.cpu_execute.proofs.execute.Goals.{in-Mult-op, in_default}
 
 pub returns-in-Reserved : goal.returns-in-Reserved
 unfolding execute_of
@@ -69,8 +69,11 @@ returns-in-Mtlo c = rw c.in-Mtlo.is
 pub returns-after-op-2 : goal.returns-after-op-2
 unfolding execute_of
 returns-after-op-2 c = elim c.match-op-2.branch [
-  | inl t ↦ rw t.1.given.1 (rw t.2 at (ap Product c.multiply.ensures))
-  | inr t ↦ rw (other_product c.args.op c.in-Mult.keys16 t.0.keys2) (rw t.1 at (ap Product c.multiply.ensures))
+  | in-Mult-op w ↦ rw w.in-Mult-op.is (rw w.signed-is at (ap Product c.multiply.ensures))
+  | in_default w ↦ elim c.in-Mult.is [
+    | inl e ↦ absurd (w.in_default.not-Mult e)
+    | inr e ↦ rw e (rw w.signed-is at (ap Product c.multiply.ensures))
+  ]
 ]
 
 pub returns-in-Div : goal.returns-in-Div

@@ -1,5 +1,4 @@
 -- The overflow's test, and the quotient below it.
-use borrow.Author.Rules.{rules}
 use borrow.Author.Tests.{le-leb, lt-leb}
 use Rattle.gte_division.specs.Division.{ratio_of}
 use Rattle.gte_division.proofs.divide.Goals as goal

@@ -4,7 +4,6 @@ use Prim.Native.Nat.{ℕ, zero, suc, ◌+◌, ◌*◌, ◌/◌, ◌%◌, ◌^◌
 use native.Mathlib.Nat.{pow-suc}
 use native.Mathlib.Omega.{arith}
 use lib.Pow.{pow-add}
-use borrow.Author.Rules.{rules}
 use Rattle.gte_division.specs.Division.{entry_of, packed}
 use Rattle.gte_division.proofs.Table.{packed_at}
 use Rattle.gte_division.proofs.entry.Goals as goal

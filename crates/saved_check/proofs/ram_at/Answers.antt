@@ -2,7 +2,6 @@
 use Prim.Native.Nat.{◌-◌, ◌≤◌}
 use native.Mathlib.Omega.{arith}
 use borrow.Author.Rules.{rules}
-use borrow.Author.Tests.{not-true, not-false}
 use mathlib.Core.Path.{sym, ◌∙◌}
 use lib.ListN.{length}
 use Rattle.saved_format.specs.Tails.{Ram}
@@ -18,10 +17,10 @@ pub pad_at-requires : goal.pad_at-requires
 pad_at-requires c = (placed 3 1 32768 _ _ _ _ c.field_at-s.ensures c.in-Past.is).1
 
 pub returns-then-not-another : goal.returns-then-not-another
-returns-then-not-another c = c.loop-next.invariant.1 _ (ram_last _ _ _ _ c.field_at-s.ensures c.in-Past.is _ (sym c.another.ensures ∙ not-true _ c.if-not-another.true) c.pad_at.ensures)
+returns-then-not-another c = c.loop-next.invariant.1 _ (ram_last _ _ _ _ c.field_at-s.ensures c.in-Past.is _ (sym c.another.ensures ∙ c.if-not-another.true) c.pad_at.ensures)
 
 pub loop-next-preserved : goal.loop-next-preserved
-loop-next-preserved c = ((placed 3 1 32768 _ _ _ _ c.field_at-s.ensures c.in-Past.is).1, λ v j. c.loop-next.invariant.1 v (ram_more _ _ _ _ c.field_at-s.ensures c.in-Past.is v (sym c.another.ensures ∙ not-false _ c.if-not-another.false) j))
+loop-next-preserved c = ((placed 3 1 32768 _ _ _ _ c.field_at-s.ensures c.in-Past.is).1, λ v j. c.loop-next.invariant.1 v (ram_more _ _ _ _ c.field_at-s.ensures c.in-Past.is v (sym c.another.ensures ∙ c.if-not-another.false) j))
 
 pub returns-in-Stop : goal.returns-in-Stop
 returns-in-Stop c = c.loop-next.invariant.1 _ (ram_stop _ _ _ _ c.field_at-s.ensures c.in-Stop.is)

@@ -1,5 +1,4 @@
 -- The tests are the definition's, and a part that the definition gives lies in its memory.
-use borrow.Author.Rules.{rules}
 use mathlib.Core.Path.{sym, ◌∙◌}
 use Rattle.window.specs.Window.{part_of}
 use Rattle.window.proofs.Bounds.{ram_place, pad_base_lem, pad_place, answered}
@@ -14,47 +13,38 @@ overflow_sub-p c = pad_base_lem _ _ _ (sym c.translate.ensures ∙ c.in-Pad.is)
 pub part_from-requires-in-Pad : goal.part_from-requires-in-Pad
 part_from-requires-in-Pad c = pad_place _ _ _ (sym c.translate.ensures ∙ c.in-Pad.is)
 
--- whole of returns-in-Ram
 pub returns-in-Ram-clause-is : goal.returns-in-Ram-clause-is
 unfolding part_of
-returns-in-Ram-clause-is c = let a = c.args in answered _ a.v.0 a.n a.ram a.pad (rw (← c.good_lengths.ensures, c.if-good_lengths.true, ← c.translate.ensures, c.in-Ram.is) c.part_from.ensures)
+returns-in-Ram-clause-is c = let a = c.args in (answered _ a.v.0 a.n a.ram a.pad (rw (← c.good_lengths.ensures, c.if-good_lengths.true, ← c.translate.ensures, c.in-Ram.is) c.part_from.ensures)).0
 
--- whole of returns-in-Ram
 pub returns-in-Ram-clause-within : goal.returns-in-Ram-clause-within
 unfolding part_of
-returns-in-Ram-clause-within c = let a = c.args in answered _ a.v.0 a.n a.ram a.pad (rw (← c.good_lengths.ensures, c.if-good_lengths.true, ← c.translate.ensures, c.in-Ram.is) c.part_from.ensures)
+returns-in-Ram-clause-within c = let a = c.args in (answered _ a.v.0 a.n a.ram a.pad (rw (← c.good_lengths.ensures, c.if-good_lengths.true, ← c.translate.ensures, c.in-Ram.is) c.part_from.ensures)).1.0
 
--- whole of returns-in-Ram
 pub returns-in-Ram-clause-small : goal.returns-in-Ram-clause-small
 unfolding part_of
-returns-in-Ram-clause-small c = let a = c.args in answered _ a.v.0 a.n a.ram a.pad (rw (← c.good_lengths.ensures, c.if-good_lengths.true, ← c.translate.ensures, c.in-Ram.is) c.part_from.ensures)
+returns-in-Ram-clause-small c = let a = c.args in (answered c.part_from.result a.v.0 a.n a.ram a.pad (rw (← c.good_lengths.ensures, c.if-good_lengths.true, ← c.translate.ensures, c.in-Ram.is) c.part_from.ensures)).1.1
 
--- whole of returns-in-Pad
 pub returns-in-Pad-clause-is : goal.returns-in-Pad-clause-is
 unfolding part_of
-returns-in-Pad-clause-is c = let a = c.args in answered _ a.v.0 a.n a.ram a.pad (rw (← c.good_lengths.ensures, c.if-good_lengths.true, ← c.translate.ensures, c.in-Pad.is) c.part_from-in-Pad.ensures)
+returns-in-Pad-clause-is c = let a = c.args in (answered _ a.v.0 a.n a.ram a.pad (rw (← c.good_lengths.ensures, c.if-good_lengths.true, ← c.translate.ensures, c.in-Pad.is) c.part_from-in-Pad.ensures)).0
 
--- whole of returns-in-Pad
 pub returns-in-Pad-clause-within : goal.returns-in-Pad-clause-within
 unfolding part_of
-returns-in-Pad-clause-within c = let a = c.args in answered _ a.v.0 a.n a.ram a.pad (rw (← c.good_lengths.ensures, c.if-good_lengths.true, ← c.translate.ensures, c.in-Pad.is) c.part_from-in-Pad.ensures)
+returns-in-Pad-clause-within c = let a = c.args in (answered _ a.v.0 a.n a.ram a.pad (rw (← c.good_lengths.ensures, c.if-good_lengths.true, ← c.translate.ensures, c.in-Pad.is) c.part_from-in-Pad.ensures)).1.0
 
--- whole of returns-in-Pad
 pub returns-in-Pad-clause-small : goal.returns-in-Pad-clause-small
 unfolding part_of
-returns-in-Pad-clause-small c = let a = c.args in answered _ a.v.0 a.n a.ram a.pad (rw (← c.good_lengths.ensures, c.if-good_lengths.true, ← c.translate.ensures, c.in-Pad.is) c.part_from-in-Pad.ensures)
+returns-in-Pad-clause-small c = let a = c.args in (answered c.part_from-in-Pad.result a.v.0 a.n a.ram a.pad (rw (← c.good_lengths.ensures, c.if-good_lengths.true, ← c.translate.ensures, c.in-Pad.is) c.part_from-in-Pad.ensures)).1.1
 
--- whole of returns-in-Bus
 pub returns-in-Bus-clause-is : goal.returns-in-Bus-clause-is
 unfolding part_of
-returns-in-Bus-clause-is c = let a = c.args in answered _ a.v.0 a.n a.ram a.pad (rw (← c.good_lengths.ensures, c.if-good_lengths.true, ← c.translate.ensures, c.in-Bus.is) c.empty.ensures)
+returns-in-Bus-clause-is c = let a = c.args in (answered _ a.v.0 a.n a.ram a.pad (rw (← c.good_lengths.ensures, c.if-good_lengths.true, ← c.translate.ensures, c.in-Bus.is) c.empty.ensures)).0
 
--- whole of returns-in-Address
 pub returns-in-Address-clause-is : goal.returns-in-Address-clause-is
 unfolding part_of
-returns-in-Address-clause-is c = let a = c.args in answered _ a.v.0 a.n a.ram a.pad (rw (← c.good_lengths.ensures, c.if-good_lengths.true, ← c.translate.ensures, c.in-Address.is) c.empty-in-Address.ensures)
+returns-in-Address-clause-is c = let a = c.args in (answered _ a.v.0 a.n a.ram a.pad (rw (← c.good_lengths.ensures, c.if-good_lengths.true, ← c.translate.ensures, c.in-Address.is) c.empty-in-Address.ensures)).0
 
--- whole of returns-else-good_lengths
 pub returns-else-good_lengths-clause-is : goal.returns-else-good_lengths-clause-is
 unfolding part_of
-returns-else-good_lengths-clause-is c = let a = c.args in answered _ a.v.0 a.n a.ram a.pad (rw (← c.good_lengths.ensures, c.if-good_lengths.false) c.empty-else-good_lengths.ensures)
+returns-else-good_lengths-clause-is c = let a = c.args in (answered _ a.v.0 a.n a.ram a.pad (rw (← c.good_lengths.ensures, c.if-good_lengths.false) c.empty-else-good_lengths.ensures)).0

@@ -1,0 +1,8 @@
+-- The matrix at register 32.
+use borrow.Author.Rules.{rules}
+use Rattle.gte_inputs.specs.Inputs.{inputs_of}
+use Rattle.gte_inputs.proofs.matrices.rotation.Goals as goal
+
+pub returns : goal.returns
+unfolding inputs_of
+returns c = c.matrix.ensures

@@ -1,0 +1,9 @@
+-- Four low halves, each below 2^16.
+use borrow.Author.Rules.{rules}
+use mathlib.Core.Path.{refl}
+use Rattle.gte_inputs.specs.Inputs.{inputs_of}
+use Rattle.gte_inputs.proofs.scalars.four_depths.Goals as goal
+
+pub returns : goal.returns
+unfolding inputs_of
+returns c = refl
