@@ -1,16 +1,15 @@
 -- Values in range: nothing wraps, nothing is limited, and no bit is set.
 use mathlib.Core.Bool.{Bool, true, false}
-use mathlib.Core.Path.{◌≡◌, ◌∙◌}
+use mathlib.Core.Path.{◌≡◌}
 use Prim.Native.Nat.{ℕ, ◌^◌, ◌-◌}
 use lib.Dec.{lit<, lit≤}
 use lib.IntN.{ℤ, pos, negsuc}
 use lib.Signed.{shr_z, lt_z}
 use Rattle.integers.specs.Bound.{mag_pos, mag_negsuc, mag_le, mag_between}
-use Rattle.integers.specs.Clamp.{clamp, clamp_clear, outside, inside}
+use Rattle.integers.specs.Clamp.{clamp_clear, outside, inside}
 use Rattle.integers.specs.Floor.{shr_low, shr_high}
 use Rattle.integers.specs.Parts.{pos_part, neg_part, zarith, Mag, no_lt}
 use Rattle.integers.specs.Wrap.{wrap, wrap_fits}
-use Rattle.gte_arithmetic.specs.Checks.{or, raise}
 use Rattle.gte_line.specs.Line.{cell_of}
 use Rattle.gte_arithmetic.specs.Values.{scale, lowest, mac_of, ir_of, sum_flag, mac0_flag}
 use Rattle.gte_line.specs.declared.Cell.{Cell}
