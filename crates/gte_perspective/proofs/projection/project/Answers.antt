@@ -1,5 +1,4 @@
 -- The two cells, the third line and the screen, whose flags are those of the checks of all seven lines.
-use borrow.Author.Rules.{rules}
 use mathlib.Core.Path.{◌≡◌}
 use mathlib.Core.Bool.{false}
 use mir.Syntax.{w16, w32, w64}

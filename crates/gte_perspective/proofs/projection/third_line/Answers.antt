@@ -1,9 +1,7 @@
 -- A depth of 0..7FFFh is stored whole in MAC3, IR3 and SZ3, from a sum far from the ends of 44 bits.
-use borrow.Author.Rules.{rules}
 use borrow.Author.Tests.{not-true}
 use mathlib.Core.Path.{◌≡◌, sym, ◌∙◌}
 use mathlib.Core.Bool.{true, false}
-use lib.Dec.{lit<}
 use lib.IntN.{pos}
 use lib.Signed.{shr_z}
 use mir.Syntax.{w16, w32, w64}
@@ -12,7 +10,7 @@ use mir.Facts.{to_z-of_z}
 use Rattle.integers.specs.Bound.{back, fit}
 use Rattle.integers.specs.Clamp.{outside}
 use Rattle.gte_line.proofs.Plain.{ir_mag}
-use Rattle.gte_perspective.proofs.Plain.{level_unsigned, third_plain}
+use Rattle.gte_perspective.proofs.Plain.{third_plain}
 use Rattle.gte_perspective.proofs.projection.third_line.Goals as goal
 
 pub returns-then-within : goal.returns-then-within

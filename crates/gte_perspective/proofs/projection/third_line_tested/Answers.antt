@@ -1,5 +1,4 @@
 -- MAC3 and Z come from the same 44-bit sum; Z has 32 bits, so the word that bit 22 tests is Z itself.
-use borrow.Author.Rules.{rules}
 use mathlib.Core.Path.{◌≡◌}
 use mathlib.Core.Bool.{false}
 use Prim.Native.Nat.{◌^◌}

@@ -1,5 +1,4 @@
 -- A coordinate on the screen is not limited, and its exact value is far from the ends of MAC0.
-use borrow.Author.Rules.{rules}
 use borrow.Author.Tests.{not-true}
 use mathlib.Core.Path.{◌≡◌, sym, ◌∙◌}
 use mathlib.Core.Bool.{true, false}

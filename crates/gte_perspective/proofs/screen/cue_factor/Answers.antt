@@ -1,9 +1,7 @@
 -- An IR0 in range is not limited, and its exact value is far from the ends of MAC0.
-use borrow.Author.Rules.{rules}
 use borrow.Author.Tests.{not-true}
 use mathlib.Core.Path.{◌≡◌, sym, ◌∙◌}
 use mathlib.Core.Bool.{true, false}
-use lib.Dec.{lit<}
 use lib.IntN.{pos}
 use lib.Signed.{shr_z}
 use mir.Syntax.{w16, w32, w64}
@@ -13,7 +11,7 @@ use Rattle.integers.specs.Bound.{back, fit}
 use Rattle.integers.specs.Clamp.{outside}
 use Rattle.gte_line.proofs.Plain.{by_4096}
 use Rattle.gte_perspective.specs.Perspective.{exact_of}
-use Rattle.gte_perspective.proofs.Plain.{factor_mag, level_unsigned, cue_plain}
+use Rattle.gte_perspective.proofs.Plain.{factor_mag, cue_plain}
 use Rattle.gte_perspective.proofs.screen.cue_factor.Goals as goal
 
 pub returns-then-within : goal.returns-then-within

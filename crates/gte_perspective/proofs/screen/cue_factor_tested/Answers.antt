@@ -1,5 +1,4 @@
 -- MAC0 and IR0 come from the same exact value.
-use borrow.Author.Rules.{rules}
 use mir.Syntax.{w32, w64}
 use mir.Facts.{to_z-of_z}
 use Rattle.integers.specs.Bound.{back}

@@ -1,5 +1,4 @@
 -- Where the first two set no bit, the flags of all are those of the last.
-use borrow.Author.Rules.{rules}
 use mir.Syntax.{w32}
 use Rattle.integers.specs.Bound.{back}
 use Rattle.gte_arithmetic.specs.Checks.{or}

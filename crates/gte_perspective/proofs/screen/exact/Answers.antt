@@ -1,5 +1,4 @@
 -- A quotient of 17 bits times 16 bits, plus 32 bits, fits 64 bits.
-use borrow.Author.Rules.{rules}
 use mathlib.Core.Path.{◌≡◌}
 use Prim.Native.Nat.{ℕ, ◌<◌, ◌^◌}
 use native.Mathlib.Omega.{arith}

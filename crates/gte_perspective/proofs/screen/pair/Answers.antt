@@ -1,5 +1,4 @@
 -- The low half of a number's 32 bits are its 16 bits.
-use borrow.Author.Rules.{rules}
 use mathlib.Core.Path.{◌≡◌, sym, ap, ◌∙◌}
 use Prim.Native.Nat.{ℕ, ◌%◌}
 use lib.Dec.{lit<}

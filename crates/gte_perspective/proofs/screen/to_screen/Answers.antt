@@ -1,5 +1,4 @@
 -- Two coordinates and a factor of one quotient, whose flags are those of the checks of lines 5 to 7.
-use borrow.Author.Rules.{rules}
 use mathlib.Core.Path.{◌≡◌}
 use mir.Syntax.{w16, w32}
 use mir.Facts.{to_z-of_z}

@@ -1,17 +1,16 @@
 -- V0, V1 and V2 are read before anything is written, and where `seen` did nothing the words read as before.
-use borrow.Author.Rules.{rules}
-use mathlib.Core.Logic.{⊎_elim}
 use mathlib.Core.Path.{◌≡◌, ap, ◌∙◌}
 use Rattle.gte_arithmetic.specs.Checks.{or}
 use Rattle.gte_inputs.proofs.Views.{inputs_view}
 use Rattle.gte_registers.specs.Registers.{view}
 use Rattle.gte_results.specs.VertexEffects.{vertices_left}
 use Rattle.gte_perspective.proofs.vertices.rtpt.Goals as goal
+use Rattle.gte_perspective.proofs.vertices.rtpt.Goals.{then-sf+else-seen, else-sf}
 
 pub returns : goal.returns
 unfolding vertices_left or
 returns c =
-    let same : view c.if-sf.c ≡ view c.args.c.now = ⊎_elim (λ t. ap view t.4 ∙ (rw t.3.left at t.2.ensures)) (λ t. ap view t.1) c.if-sf.branch in
+    let same : view c.if-sf.c ≡ view c.args.c.now = elim c.if-sf.branch [ then-sf+else-seen w ↦ ap view w.c-is ∙ (rw w.if-seen.false at w.seen.ensures) | else-sf w ↦ ap view w.c-is ] in
     rw (
       c.leave_vertices.ensures,
       c.vertex_at-p.ensures,

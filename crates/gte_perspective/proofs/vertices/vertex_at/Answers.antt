@@ -1,5 +1,4 @@
 -- The exact sums, projected by the camera.
-use borrow.Author.Rules.{rules}
 use Rattle.gte_perspective.specs.Vertices.{rotated}
 use Rattle.gte_perspective.proofs.vertices.vertex_at.Goals as goal
 

@@ -10,8 +10,7 @@ use Rattle.gte_colour.specs.Lights.{normal_tones, normal_line}
 use Rattle.gte_colour.specs.Cueing.{cued_checks, depth_cued}
 use Rattle.gte_colour.proofs.Normal.{normal_flags}
 use Rattle.gte_colour.proofs.CueingLines.{code, with_flag}
-use Rattle.gte_lighting.proofs.normal_cueing.ncds_part.Statement.{statement}
-use Rattle.gte_lighting.proofs.normal_cueing.ncds_part.Tie as tie
+use Rattle.gte_lighting.proofs.normal_cueing.ncds_part.Goals as goal
 
 joined : (sf lm : Bool) (i : Inputs) (k : ℕ)
     → let b = normal_line sf lm i k in
@@ -20,18 +19,7 @@ joined : (sf lm : Bool) (i : Inputs) (k : ℕ)
 unfolding normal_line depth_cued ncds_of
 joined sf lm i k = rw (normal_flags sf lm i k (cued_checks 4 5 6 sf lm i (normal_tones sf lm i k)))
 
-returns : tie.Need-returns
+pub returns : goal.returns
 returns c =
-    let a = c.before.before.before.before.before.before.args in
-    rw (c.with-flag.ensures, c.before.cue.ensures, c.before.before.tones.ensures.0, c.before.before.before.before.before.normal-line.ensures, code a.c.now) (joined a.sf a.lm (inputs_of a.c.now) a.k)
-
-pub ncds_part_spec : {M : Type 1} → statement M
-ncds_part_spec =
-    tie.close
-    (tie.spec
-    (λ c κs. search rules)
-    (λ c. search rules)
-    (λ c κs. search rules)
-    (λ c κs. search rules)
-    (λ c κs. search rules)
-    returns)
+    let a = c.args in
+    rw (c.with_flag.ensures, c.cue.ensures, c.tones.ensures.is, c.normal_line-b.ensures, code a.c.now) (joined a.sf a.lm (inputs_of a.c.now) a.k)

@@ -13,8 +13,7 @@ use Rattle.gte_colour.specs.Lights.{light_sums, lit_ir, back_sums}
 use Rattle.gte_colour.proofs.LightsLines.{after_line}
 use Rattle.gte_colour.proofs.CueingLines.{code, with_flag}
 use Rattle.gte_lighting.proofs.Twice.{last_flags}
-use Rattle.gte_lighting.proofs.normals.ncs_part.Statement.{statement}
-use Rattle.gte_lighting.proofs.normals.ncs_part.Tie as tie
+use Rattle.gte_lighting.proofs.normals.ncs_part.Goals as goal
 
 joined : (sf lm : Bool) (i : Inputs) (k : ℕ)
     → let a = line_of sf lm (light_sums i k) in
@@ -25,18 +24,7 @@ joined sf lm i k =
     let t = back_sums i (lit_ir sf lm i k) in
     rw (after_line 1 sf lm (light_sums i k) (line_checks 2 sf lm t ++ last_checks 6 sf lm t), flags_++ (line_checks 2 sf lm t) (last_checks 6 sf lm t), last_flags 2 6 sf lm t)
 
-returns : tie.Need-returns
+pub returns : goal.returns
 returns c =
-    let a = c.before.before.before.before.before.before.args in
-    rw (c.with-flag.ensures, c.before.finish-colour.ensures, c.before.before.before.back-sums.ensures.0, c.before.before.before.before.before.light-line.ensures, code a.c.now) (joined a.sf a.lm (inputs_of a.c.now) a.k)
-
-pub ncs_part_spec : {M : Type 1} → statement M
-ncs_part_spec =
-    tie.close
-    (tie.spec
-    (λ c κs. search rules)
-    (λ c κs. search rules)
-    (λ c. search rules)
-    (λ c κs. search rules)
-    (λ c κs. search rules)
-    returns)
+    let a = c.args in
+    rw (c.with_flag.ensures, c.finish_colour.ensures, c.back_sums.ensures.is, c.light_line-a.ensures, code a.c.now) (joined a.sf a.lm (inputs_of a.c.now) a.k)

@@ -10,8 +10,7 @@ use Rattle.gte_lighting.specs.NormalColours.{nccs_of}
 use Rattle.gte_colour.specs.Lights.{normal_tones, normal_line}
 use Rattle.gte_colour.proofs.Normal.{normal_flags}
 use Rattle.gte_colour.proofs.CueingLines.{shade_flags, code, with_flag}
-use Rattle.gte_lighting.proofs.normal_colours.nccs_part.Statement.{statement}
-use Rattle.gte_lighting.proofs.normal_colours.nccs_part.Tie as tie
+use Rattle.gte_lighting.proofs.normal_colours.nccs_part.Goals as goal
 
 joined : (sf lm : Bool) (i : Inputs) (k : ℕ)
     → let b = normal_line sf lm i k in
@@ -22,19 +21,7 @@ joined sf lm i k =
     let t = normal_tones sf lm i k in
     rw (normal_flags sf lm i k (shade_checks 5 6 sf lm t), shade_flags 5 6 sf lm t)
 
-returns : tie.Need-returns
+pub returns : goal.returns
 returns c =
-    let a = c.before.before.before.before.before.before.before.args in
-    rw (c.with-flag.ensures, c.before.finish-colour.ensures, c.before.before.before.tones.ensures.0, c.before.before.before.before.before.before.normal-line.ensures, code a.c.now) (joined a.sf a.lm (inputs_of a.c.now) a.k)
-
-pub nccs_part_spec : {M : Type 1} → statement M
-nccs_part_spec =
-    tie.close
-    (tie.spec
-    (λ c κs. search rules)
-    (λ c. search rules)
-    (λ c κs. search rules)
-    (λ c. search rules)
-    (λ c κs. search rules)
-    (λ c κs. search rules)
-    returns)
+    let a = c.args in
+    rw (c.with_flag.ensures, c.finish_colour.ensures, c.tones.ensures.is, c.normal_line-b.ensures, code a.c.now) (joined a.sf a.lm (inputs_of a.c.now) a.k)

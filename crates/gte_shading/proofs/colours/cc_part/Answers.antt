@@ -10,8 +10,7 @@ use Rattle.gte_colour.specs.Lights.{back_sums}
 use Rattle.gte_shading.specs.Shading.{ir_tones, cc_of}
 use Rattle.gte_colour.proofs.LightsLines.{after_line}
 use Rattle.gte_colour.proofs.CueingLines.{shade_flags, code, with_flag}
-use Rattle.gte_shading.proofs.colours.cc_part.Statement.{statement}
-use Rattle.gte_shading.proofs.colours.cc_part.Tie as tie
+use Rattle.gte_shading.proofs.colours.cc_part.Goals as goal
 
 joined : (sf lm : Bool) (i : Inputs)
     → let b = line_of sf lm (back_sums i i.ir) in
@@ -22,21 +21,7 @@ joined sf lm i =
     let t = ir_tones sf lm i in
     rw (after_line 1 sf lm (back_sums i i.ir) (shade_checks 4 5 sf lm t), shade_flags 4 5 sf lm t)
 
-returns : tie.Need-returns
+pub returns : goal.returns
 returns c =
-    let a = c.before.before.before.before.before.before.before.before.before.args in
-    rw (c.with-flag.ensures, c.before.finish-colour.ensures, c.before.before.before.tones.ensures.0, c.before.before.before.before.before.before.finish.ensures, c.before.before.before.before.before.before.before.back-sums.ensures.0, c.before.before.before.before.before.before.before.before.ir.ensures, code a.c.now) (joined a.sf a.lm (inputs_of a.c.now))
-
-pub cc_part_spec : {M : Type 1} → statement M
-cc_part_spec =
-    tie.close
-    (tie.spec
-    (λ c κs. search rules)
-    (λ c κs. search rules)
-    (λ c κs. search rules)
-    (λ c. search rules)
-    (λ c κs. search rules)
-    (λ c. search rules)
-    (λ c κs. search rules)
-    (λ c κs. search rules)
-    returns)
+    let a = c.args in
+    rw (c.with_flag.ensures, c.finish_colour.ensures, c.tones.ensures.is, c.finish-b.ensures, c.back_sums.ensures.is, c.ir.ensures, code a.c.now) (joined a.sf a.lm (inputs_of a.c.now))
