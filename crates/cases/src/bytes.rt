@@ -32,12 +32,9 @@ pub(crate) fn put_byte(m: &mut [u8], at: usize, v: u32) {
 
 // A number that a changed byte changes: each byte has its own weight among the last ones, and all of them are mixed in.
 pub(crate) fn digest(m: &[u8], first: u64) -> u64 {
-    let n = m.len();
     let mut d = first;
-    let mut i: usize = 0;
-    while i < n {
-        d = mix(d, wide(m[i]));
-        i += 1;
+    for b in m {
+        d = mix(d, wide(*b));
     }
     d
 }

@@ -99,10 +99,8 @@ pub(crate) fn part<'a>(ram: &'a [u8], pad: &'a [u8], x: Case, address: u32, leng
 
 // The 600 words go to the beginning of RAM.
 pub(crate) fn put_words(ram: &mut [u8], words: &[u32; 600]) {
-    let mut i: usize = 0;
-    while i < 600 {
+    for i in 0..600 {
         put(ram, i * 4, words[i]);
-        i += 1;
     }
 }
 
@@ -129,10 +127,8 @@ pub(crate) fn causes(
 // The first 600 words of RAM.
 pub(crate) fn first_words(ram: &[u8]) -> [u32; 600] {
     let mut words = [0u32; 600];
-    let mut i: usize = 0;
-    while i < 600 {
+    for i in 0..600 {
         words[i] = word(ram, i * 4);
-        i += 1;
     }
     words
 }

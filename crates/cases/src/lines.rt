@@ -1,6 +1,8 @@
 // The lines of standard input: bytes, numbers of eight digits, names.
 ghost use Rattle.std.specs.Prelude.{◌<◌};
 
+use std::io;
+
 pub(crate) fn byte_at(buf: &[u8; 65520], i: usize) -> u8 {
     buf[i % 65520]
 }
@@ -31,23 +33,21 @@ pub(crate) fn digit(b: u8) -> u32
 pub(crate) fn number_at(buf: &[u8; 65520], at: usize) -> u32 {
     let start = at % 65520;
     let mut x: u32 = 0;
-    let mut i: usize = 0;
-    while i < 8 {
+    for i in 0..8 {
         x = x % 0x1000_0000 * 16 + digit(byte_at(buf, start + i));
-        i += 1;
     }
     x
 }
 
 // The 17 bytes from `start` go out, where there are so many.
-pub(crate) fn print_name(s: &[u8], start: usize) {
+pub(crate) fn print_name(rt: &impl Print, s: &[u8], start: usize) -> io::Result<()> {
     let n = s.len();
     if n < 17 {
-        return;
+        return Ok(());
     }
     if n - 17 < start {
-        return;
+        return Ok(());
     }
     let end = start + 17;
-    io::write_all(1, &s[start..end]);
+    rt.write_all(&s[start..end])
 }

@@ -36,6 +36,8 @@ use crate::state::{
     with_pad_length, with_ram_length,
 };
 use crate::tally::{Tally, compare, end_case, more, print_tally};
+use std::io;
+use std::io::Read;
 
 // A case begins.
 fn begin_case(
@@ -71,6 +73,7 @@ fn begin_case(
 
 // A line that reads or writes, or asks for a run; one that compares is left to `check_line`.
 fn follow(
+    rt: &impl Print,
     x: Case,
     g: &mut [u32; 64],
     image: &mut [u8; 512],
@@ -80,8 +83,8 @@ fn follow(
     letter: u8,
     a: u32,
     b: u32,
-) -> Case {
-    match letter {
+) -> io::Result<Case> {
+    let next = match letter {
         b'g' => {
             gte_registers::writes::write(g, a as usize, b);
             x
@@ -116,14 +119,16 @@ fn follow(
         b'z' => with_answer(x, draw_list(ram, a as usize)),
         b'c' => {
             let t = x.tally;
-            counted(x, compare(t, a, outcome(g, a), b as u64))
+            counted(x, compare(rt, t, a, outcome(g, a), b as u64)?)
         }
-        _ => check_line(x, g, image, ram, pad, file, letter, a, b),
-    }
+        _ => check_line(rt, x, g, image, ram, pad, file, letter, a, b)?,
+    };
+    Ok(next)
 }
 
 // A line that compares. A letter that is none of them counts as a difference.
 fn check_line(
+    rt: &impl Print,
     x: Case,
     g: &[u32; 64],
     image: &[u8; 512],
@@ -133,28 +138,24 @@ fn check_line(
     letter: u8,
     a: u32,
     b: u32,
-) -> Case {
+) -> io::Result<Case> {
     let t = x.tally;
-    match letter {
-        b'x' => counted(
-            x,
-            compare(
-                t,
-                a,
-                gte_registers::reads::read(g, a as usize) as u64,
-                b as u64,
-            ),
+    let compared = match letter {
+        b'x' => compare(
+            rt,
+            t,
+            a,
+            gte_registers::reads::read(g, a as usize) as u64,
+            b as u64,
         ),
-        b'a' => counted(x, compare(t, 0, x.answer, join(a, b))),
-        b'r' => counted(
-            x,
-            compare(t, a, word(image, (a as usize) * 4) as u64, b as u64),
-        ),
-        b'q' => counted(x, compare(t, a, word(ram, a as usize) as u64, b as u64)),
-        b't' => counted(x, compare(t, a, word(pad, a as usize) as u64, b as u64)),
-        b'y' => counted(x, compare(t, a, word(file, a as usize) as u64, b as u64)),
-        _ => counted(x, compare(t, wide(letter), 0, 1)),
-    }
+        b'a' => compare(rt, t, 0, x.answer, join(a, b)),
+        b'r' => compare(rt, t, a, word(image, (a as usize) * 4) as u64, b as u64),
+        b'q' => compare(rt, t, a, word(ram, a as usize) as u64, b as u64),
+        b't' => compare(rt, t, a, word(pad, a as usize) as u64, b as u64),
+        b'y' => compare(rt, t, a, word(file, a as usize) as u64, b as u64),
+        _ => compare(rt, t, wide(letter), 0, 1),
+    };
+    Ok(counted(x, compared?))
 }
 
 fn all(image: &[u8; 512], ram: &[u8; 2097160], pad: &[u8; 2048], file: &[u8; 36000]) -> u64 {
@@ -178,6 +179,7 @@ fn noted(
 
 // Line k is carried out.
 fn line(
+    rt: &impl Print,
     x: Case,
     g: &mut [u32; 64],
     image: &mut [u8; 512],
@@ -186,20 +188,21 @@ fn line(
     file: &mut [u8; 36000],
     buf: &[u8; 65520],
     k: usize,
-) -> Case {
+) -> io::Result<Case> {
     let at = k % 3276 * 20;
     let letter = byte_at(buf, at);
     let a = number_at(buf, at + 2);
     let b = number_at(buf, at + 11);
     let t = x.tally;
-    match letter {
+    let next = match letter {
         b'n' => {
-            end_case(t);
-            print_name(buf, at + 2);
+            end_case(rt, t)?;
+            print_name(rt, buf, at + 2)?;
             begin_case(g, image, ram, pad, file, t)
         }
-        b'k' => counted(x, compare(t, 0, all(image, ram, pad, file), x.before)),
+        b'k' => counted(x, compare(rt, t, 0, all(image, ram, pad, file), x.before)?),
         _ => follow(
+            rt,
             noted(x, letter, image, ram, pad, file),
             g,
             image,
@@ -209,12 +212,14 @@ fn line(
             letter,
             a,
             b,
-        ),
-    }
+        )?,
+    };
+    Ok(next)
 }
 
 // The lines of a block are carried out in turn.
 fn block(
+    rt: &impl Print,
     first: Case,
     g: &mut [u32; 64],
     image: &mut [u8; 512],
@@ -223,32 +228,33 @@ fn block(
     file: &mut [u8; 36000],
     buf: &[u8; 65520],
     lines: usize,
-) -> Case {
+) -> io::Result<Case> {
     let mut x = first;
-    let mut k: usize = 0;
-    while k < lines {
-        x = line(x, g, image, ram, pad, file, buf, k);
-        k += 1;
+    for k in 0..lines {
+        x = line(rt, x, g, image, ram, pad, file, buf, k)?;
     }
-    x
+    Ok(x)
 }
 
-fn read_block(buf: &mut [u8; 65520]) -> usize {
-    io::read_full(0, buf)
+// Reads until `buf` is full or the input ends, and returns how many bytes it put at the start of `buf`.
+fn read_block(input: &mut impl Read, buf: &mut [u8; 65520]) -> io::Result<usize> {
+    let n = io::copy(&mut input.take(65520), &mut buf.as_mut_slice())?;
+    Ok(n as usize)
 }
 
 // Reads block after block, at most 16 of them, carries out their lines and counts.
-fn follow_all(ram: &mut [u8; 2097160]) -> Tally {
+fn follow_all(rt: &(impl Print + Input), ram: &mut [u8; 2097160]) -> io::Result<Tally> {
+    let mut input = rt.reader();
     let mut g = [0u32; 64];
     let mut image = [0u8; 512];
     let mut pad = [0u8; 2048];
     let mut file = [0u8; 36000];
     let mut buf = [0u8; 65520];
     let mut x = nothing();
-    let mut i: usize = 0;
-    while i < 16 {
-        let n = read_block(&mut buf);
+    for _ in 0..16 {
+        let n = read_block(&mut input, &mut buf)?;
         x = block(
+            rt,
             x,
             &mut g,
             &mut image,
@@ -257,19 +263,18 @@ fn follow_all(ram: &mut [u8; 2097160]) -> Tally {
             &mut file,
             &buf,
             n / 20,
-        );
+        )?;
         if n % 20 != 0 {
-            io::write_all(1, b"\nthe input ends inside a line");
+            print!(rt; "\nthe input ends inside a line")?;
         }
-        i += 1;
     }
-    let t = x.tally;
-    t
+    Ok(x.tally)
 }
 
-fn main() {
+// A read or a write that fails ends the program with its error.
+fn main(rt: HostRuntime) -> io::Result<()> {
     let mut ram = [0u8; 2097160];
-    let t = follow_all(&mut ram);
-    end_case(t);
-    print_tally(t);
+    let t = follow_all(&rt, &mut ram)?;
+    end_case(&rt, t)?;
+    print_tally(&rt, t)
 }

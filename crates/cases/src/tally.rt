@@ -1,4 +1,5 @@
 // What has been compared, and what is printed of it.
+use std::io;
 
 // What has been counted, and whether the case that runs has had no difference so far.
 #[derive(Clone, Copy)]
@@ -15,51 +16,55 @@ pub(crate) fn more(n: u64) -> u64 {
 }
 
 // The end of a case's line.
-pub(crate) fn end_case(t: Tally) {
+pub(crate) fn end_case(rt: &impl Print, t: Tally) -> io::Result<()> {
     if t.cases == 0 {
-        return;
+        return Ok(());
     }
     if t.clean {
-        io::write_all(1, b" ok");
+        print!(rt; " ok")?;
     }
-    io::write_all(1, b"\n");
+    println!(rt)
 }
 
 // A line about a difference: what was looked at, what was found, what was expected.
-pub(crate) fn print_difference(what: u32, found: u64, expected: u64) {
-    io::write_all(1, b"\n  ");
-    io::print_hex(1, what as u64, 8);
-    io::write_all(1, b": ");
-    io::print_hex(1, found, 16);
-    io::write_all(1, b", expected ");
-    io::print_hex(1, expected, 16);
+pub(crate) fn print_difference(
+    rt: &impl Print,
+    what: u32,
+    found: u64,
+    expected: u64,
+) -> io::Result<()> {
+    print!(rt; "\n  {what:08x}: {found:016x}, expected {expected:016x}")
 }
 
 // One more value is compared.
-pub(crate) fn compare(t: Tally, what: u32, found: u64, expected: u64) -> Tally {
+pub(crate) fn compare(
+    rt: &impl Print,
+    t: Tally,
+    what: u32,
+    found: u64,
+    expected: u64,
+) -> io::Result<Tally> {
     if found == expected {
-        return Tally {
+        return Ok(Tally {
             cases: t.cases,
             values: more(t.values),
             differ: t.differ,
             clean: t.clean,
-        };
+        });
     }
-    print_difference(what, found, expected);
-    Tally {
+    print_difference(rt, what, found, expected)?;
+    Ok(Tally {
         cases: t.cases,
         values: more(t.values),
         differ: more(t.differ),
         clean: false,
-    }
+    })
 }
 
 // The last line: how many cases, how many values, how many differ.
-pub(crate) fn print_tally(t: Tally) {
-    io::print_decimal(1, t.cases);
-    io::write_all(1, b" cases, ");
-    io::print_decimal(1, t.values);
-    io::write_all(1, b" values compared, ");
-    io::print_decimal(1, t.differ);
-    io::write_all(1, b" differ\n");
+pub(crate) fn print_tally(rt: &impl Print, t: Tally) -> io::Result<()> {
+    println!(rt;
+        "{} cases, {} values compared, {} differ",
+        t.cases, t.values, t.differ
+    )
 }
