@@ -178,7 +178,7 @@ run_demand_2 i m n k a h =
     record {
       goes = rw e x.goes;
       image = x.after ∙ ap image_of x.step ∙ ap (λ (y : State). image_of (step_of y).after) (sym e);
-      memory_after_lem = x.after_memory ∙ ap (λ (y : State). y.memory) x.step ∙ ap (λ (y : State). (step_of y).after.memory) (sym e);
+      memory_after = x.after_memory ∙ ap (λ (y : State). y.memory) x.step ∙ ap (λ (y : State). (step_of y).after.memory) (sym e);
       flag = λ word b c d.
           ap (λ (w : List ℕ). bit_at b (reg w 63)) (words_after_lem i m k word t u x c d)
           ∙ demand_2 word t.geometry (geometry_long t.geometry x.formed.geometry) d b

@@ -32,7 +32,7 @@ pub record CarriesOut (word : ℕ) (s : State) : Type 0 where
 pub record StepExact (i : List ℕ) (m : Memory) (k : ℕ) : Type 0 where
   pub goes : (step_of (machine_of (answer_of i m k).image (answer_of i m k).memory)).stop ≡ false
   pub image : (answer_of i m (suc k)).image ≡ image_of (step_of (machine_of (answer_of i m k).image (answer_of i m k).memory)).after
-  pub memory_after_lem : (answer_of i m (suc k)).memory ≡ (step_of (machine_of (answer_of i m k).image (answer_of i m k).memory)).after.memory
+  pub memory_after : (answer_of i m (suc k)).memory ≡ (step_of (machine_of (answer_of i m k).image (answer_of i m k).memory)).after.memory
   pub flag : (word b : ℕ)
       → CarriesOut word (machine_of (answer_of i m k).image (answer_of i m k).memory)
       → outcome_of word ≡ Done

@@ -45,7 +45,7 @@ module _ (f : List ℕ) (m : Machine) (s : Means f m) where
 
   -- the words of the file's image
   image_parts : image_of m ≡ s.control ++ s.geometry
-  image_parts = bytes_of_append m.control m.geometry ∙ rw (s.control_words_lem, s.geometry_words, (content_words f m s).0, (content_words f m s).1)
+  image_parts = bytes_of_append m.control m.geometry ∙ rw (s.control_words, s.geometry_words, (content_words f m s).0, (content_words f m s).1)
 
   first_words : (at n : ℕ) → at + 4 * n ≤ 176 → words_at f (3 + at) n ≡ words_at (image_of m) at n
   first_words at n h =

@@ -36,7 +36,7 @@ pub file_is : (f : List ℕ) (m : Machine) → Means f m → f ≡ file_of m
 unfolding file_of
 file_is f m s =
     let w = content_words f m s in
-    s.fields ∙ rw (s.control_words_lem, s.geometry_words, w.0, w.1, blocks_are s.ram_blocks)
+    s.fields ∙ rw (s.control_words, s.geometry_words, w.0, w.1, blocks_are s.ram_blocks)
 
 pub same_bytes : SameBytes
 same_bytes f g m s t = file_is f m s ∙ sym (file_is g m t)
@@ -53,7 +53,7 @@ one_meaning f m n s t =
     let b = field_once 2 s.geometry t.geometry _ _ a.rest in
     let o = blocks_once s.ram_blocks t.ram_blocks _ _ refl refl b.rest in
     let p = field_once 4 m.pad n.pad _ _ o.1 in
-    let c : m.control ≡ n.control = s.control_words_lem ∙ rw a.content (sym t.control_words_lem) in
+    let c : m.control ≡ n.control = s.control_words ∙ rw a.content (sym t.control_words) in
     let g : m.geometry ≡ n.geometry = s.geometry_words ∙ rw b.content (sym t.geometry_words) in
     let r : m.ram ≡ n.ram = o.0 in
     let q : m.pad ≡ n.pad = p.content in
@@ -71,7 +71,7 @@ round_trip m h =
       geometry = g;
       blocks = blocks_of (full_blocks (length m.ram)) m.ram;
       bytes =
-          bytes_append (field 1 c) (bytes_field 1 c (omega arith) (omega arith) (bytes_words m.control h.control_words_lem))
+          bytes_append (field 1 c) (bytes_field 1 c (omega arith) (omega arith) (bytes_words m.control h.control_words))
           (bytes_append (field 2 g) (bytes_field 2 g (omega arith) (omega arith) (bytes_words m.geometry h.geometry_words))
           (bytes_append (blocks_of (full_blocks (length m.ram)) m.ram) (blocks_bytes m.ram h.ram_bytes)
           (bytes_append (field 4 m.pad) (bytes_field 4 m.pad (omega arith) (omega (arith, h.pad_long)) h.pad_bytes) (bytes_field 0 [] (omega arith) (omega arith) bytes_none))));
@@ -79,7 +79,7 @@ round_trip m h =
       control_long = lc;
       geometry_long = lg;
       pad_long = h.pad_long;
-      control_words_lem = sym (rw h.control_long at (words_all m.control));
+      control_words = sym (rw h.control_long at (words_all m.control));
       geometry_words = sym (rw h.geometry_long at (words_all m.geometry));
       ram_blocks = blocks_of_lem m.ram h.ram_some;
     }

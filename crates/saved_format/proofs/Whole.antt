@@ -89,7 +89,7 @@ from_file f a =
         control_long = exactly 176 c a.fits;
         geometry_long = exactly 256 g b.fits;
         pad_long = exactly 1024 p.content p.fits;
-        control_words_lem = refl;
+        control_words = refl;
         geometry_words = refl;
         ram_blocks = r.parts;
       },

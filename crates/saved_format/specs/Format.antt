@@ -42,7 +42,7 @@ pub record Means (file : List ℕ) (m : Machine) : Type 0 where
   pub control_long : length control ≡ 176
   pub geometry_long : length geometry ≡ 256
   pub pad_long : length m.pad ≡ 1024
-  pub control_words_lem : m.control ≡ words_at control 0 44
+  pub control_words : m.control ≡ words_at control 0 44
   pub geometry_words : m.geometry ≡ words_at geometry 0 64
   pub ram_blocks : Blocks blocks m.ram
 

@@ -33,7 +33,7 @@ file_length n = 1468 + blocks_length n
 -- a machine of the sizes that a file can hold
 pub record Sized (m : Machine) : Type 0 where
   pub control_long : length m.control ≡ 44
-  pub control_words_lem : (i : ℕ) → get_or m.control i 0 < 4294967296
+  pub control_words : (i : ℕ) → get_or m.control i 0 < 4294967296
   pub geometry_long : length m.geometry ≡ 64
   pub geometry_words : (i : ℕ) → get_or m.geometry i 0 < 4294967296
   pub ram_some : 1 ≤ length m.ram

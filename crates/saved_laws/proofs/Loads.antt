@@ -101,7 +101,7 @@ load_tells file image ram pad o (means h m s e) = rw e (kept m image ram pad)
 
 -- ---- what a load left is run
 pub image_long : (file : List ℕ) (m : Machine) → Means file m → length (image_of m) ≡ 432
-image_long file m s = omega (arith, length_bytes_of (m.control ++ m.geometry), length-append m.control m.geometry, ap length s.control_words_lem ∙ length_words_at s.control 0 44, ap length s.geometry_words ∙ length_words_at s.geometry 0 64)
+image_long file m s = omega (arith, length_bytes_of (m.control ++ m.geometry), length-append m.control m.geometry, ap length s.control_words ∙ length_words_at s.control 0 44, ap length s.geometry_words ∙ length_words_at s.geometry 0 64)
 
 pub loaded_runs : LoadedRuns
 unfolding length_code

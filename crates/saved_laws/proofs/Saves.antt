@@ -56,7 +56,7 @@ pub sized : (image ram pad : List ℕ) → Bytes image → Bytes ram → Bytes p
 sized image ram pad a b c l =
     record {
       control_long = length_words_at image 0 44;
-      control_words_lem = words_below image 0 44 a;
+      control_words = words_below image 0 44 a;
       geometry_long = length_words_at image 176 64;
       geometry_words = words_below image 176 64 a;
       ram_some = l.ram_some;

@@ -58,7 +58,7 @@ back image ram pad space image' ram' pad' a b c z e g h =
 -- ---- reading then writing
 machine_back : (file : List ℕ) (m : Machine) → Means file m → machine_in (image_of m) m.ram m.pad ≡ m
 machine_back file m s =
-    let c = ap length s.control_words_lem ∙ length_words_at s.control 0 44 in
+    let c = ap length s.control_words ∙ length_words_at s.control 0 44 in
     let g = ap length s.geometry_words ∙ length_words_at s.geometry 0 64 in
     let b = bytes_of_append m.control m.geometry in
     let x : words_at (image_of m) 0 44 ≡ m.control = ap (λ (l : List ℕ). words_at l 0 44) b ∙ (rw c at (words_back m.control (bytes_of m.geometry))) in

@@ -174,7 +174,7 @@ at_only (Ram p) a n ram pad e f m ok h =
       some = o.0;
       lengths = ok;
       in_ram = λ z i lt. is_in_ram _ ram (each mapped 0 ram a n mapped_top f (omega arith) s.1 l i lt);
-      in_pad_lem = λ z. differ (sym z ∙ o.1.1);
+      in_pad = λ z. differ (sym z ∙ o.1.1);
     }
 at_only (Pad p) a n ram pad e f m ok h =
     let s = in_pad_lem a ram p e in
@@ -184,7 +184,7 @@ at_only (Pad p) a n ram pad e f m ok h =
       some = o.0;
       lengths = ok;
       in_ram = λ z. differ (sym o.1.1 ∙ z);
-      in_pad_lem = λ z i lt. is_in_pad _ ram m (each pad_mapped pad_base pad_end a n pad_top f (omega arith) s.1 l i lt);
+      in_pad = λ z i lt. is_in_pad _ ram m (each pad_mapped pad_base pad_end a n pad_top f (omega arith) s.1 l i lt);
     }
 at_only Bus a n ram pad e f m ok h = absurd (omega arith)
 at_only Address a n ram pad e f m ok h = absurd (omega arith)
@@ -211,7 +211,7 @@ window_exact a n ram pad f =
           let u = all_ram a n ram all in
           let s = first mapped 0 ram a n f some u in
           rw (ok, is_in_ram a ram s, le-leb _ _ (room mapped 0 ram a n (omega (arith, (good ram pad ok).most)) s.below u));
-      in_pad_lem = λ some ok all.
+      in_pad = λ some ok all.
           let u = all_pad a n ram all in
           let s = first pad_mapped pad_base pad_end a n f some u in
           let l = room pad_mapped pad_base pad_end a n (omega arith) s.below u in

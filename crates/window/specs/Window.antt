@@ -53,11 +53,11 @@ pub record NotEmpty (p : Part) (a n ram pad : ℕ) : Type 0 where
   pub some : 0 < n
   pub lengths : good_lengths ram pad ≡ true
   pub in_ram : p.pad ≡ false → AllInRam a n ram
-  pub in_pad_lem : p.pad ≡ true → AllInPad a n ram
+  pub in_pad : p.pad ≡ true → AllInPad a n ram
 
 -- "empty exactly when", both ways and for both memories. Where the length is not 0, both buffers' lengths are good and every byte is in
 -- one memory, the part is the whole range there, from its first byte on; and where a part is not empty, all of that holds.
 pub record WindowExact (a n ram pad : ℕ) : Type 0 where
   pub in_ram : 0 < n → good_lengths ram pad ≡ true → AllInRam a n ram → part_of a n ram pad ≡ part false (a % 0x2000_0000) n
-  pub in_pad_lem : 0 < n → good_lengths ram pad ≡ true → AllInPad a n ram → part_of a n ram pad ≡ part true (a % 0x2000_0000 - pad_base) n
+  pub in_pad : 0 < n → good_lengths ram pad ≡ true → AllInPad a n ram → part_of a n ram pad ≡ part true (a % 0x2000_0000 - pad_base) n
   pub only : 0 < (part_of a n ram pad).length → NotEmpty (part_of a n ram pad) a n ram pad

@@ -1,0 +1,16 @@
+-- The rows of MAC0, then that of OTZ from its exact value.
+use borrow.Author.Rules.{rules}
+use native.Mathlib.Omega.{arith}
+use mir.Syntax.{w64}
+use mir.Facts.{to_z-of_z}
+use Rattle.integers.specs.Bound.{back}
+use Rattle.gte_depth.specs.Depth.{average_checks}
+use Rattle.gte_rows.proofs.Listings.{then}
+use Rattle.gte_causes.proofs.depth.list_average.Goals as goal
+
+pub returns-clause-is : goal.returns-clause-is
+unfolding average_checks
+returns-clause-is c = let f = to_z-of_z c.ranges.x in
+    let u = rw f at c.list_mac0-p.ensures.is in
+    let v = rw (back w64 c.shift_12.result c.shift_12.type_inv, c.shift_12.ensures, f) at c.list_depth.ensures.is in
+    then u v

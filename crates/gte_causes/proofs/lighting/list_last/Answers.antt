@@ -1,0 +1,16 @@
+-- The rows of three ends, one after another.
+use borrow.Author.Rules.{rules}
+use native.Mathlib.Omega.{arith}
+use mir.Syntax.{w64}
+use Rattle.integers.specs.Bound.{back}
+use Rattle.gte_lighting.specs.Normals.{last_checks}
+use Rattle.gte_rows.proofs.Listings.{then}
+use Rattle.gte_causes.proofs.lighting.list_last.Goals as goal
+
+pub returns-clause-is : goal.returns-clause-is
+unfolding last_checks
+returns-clause-is c = let s = c.args.s in
+    let u = rw (back w64 s.x c.struct_told-1.given.0.1) at c.list_end-p.ensures.is in
+    let v = rw (back w64 s.y c.struct_told-2-1.given.1.0.1) at c.list_end-q.ensures.is in
+    let w = rw (back w64 s.z c.struct_told-3-1.given.1.1.0.1) at c.list_end.ensures.is in
+    then (then u v) w

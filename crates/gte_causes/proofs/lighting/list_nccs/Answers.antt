@@ -1,0 +1,13 @@
+-- The rows of lines 1 and 2, then those of the end.
+use borrow.Author.Rules.{rules}
+use native.Mathlib.Omega.{arith}
+use Rattle.gte_line.specs.Line.{line_checks_at}
+use Rattle.gte_colour.specs.Lights.{normal_line}
+use Rattle.gte_colour.proofs.CueingLines.{code}
+use Rattle.gte_rows.proofs.Listings.{then}
+use Rattle.gte_causes.proofs.lighting.list_nccs.Goals as goal
+
+pub returns-clause-is : goal.returns-clause-is
+unfolding line_checks_at normal_line
+returns-clause-is c = let v = rw (c.tones.ensures.is, c.normal_line-b.ensures, code c.args.c.now) at c.list_shade.ensures.is in
+    then c.list_normal-p.ensures.is v

@@ -1,0 +1,12 @@
+-- The rows of lines 1 and 2, then those of the same sums' IR and colours.
+use borrow.Author.Rules.{rules}
+use native.Mathlib.Omega.{arith}
+use Rattle.gte_line.specs.Line.{line_checks_at}
+use Rattle.gte_lighting.specs.Normals.{ncs_checks, last_checks}
+use Rattle.gte_rows.proofs.Listings.{then}
+use Rattle.gte_causes.proofs.lighting.list_ncs.Goals as goal
+
+pub returns-clause-is : goal.returns-clause-is
+unfolding ncs_checks last_checks line_checks_at
+returns-clause-is c = let v = rw (c.back_sums.ensures.is, c.light_line-b.ensures) at c.list_last.ensures.is in
+    then c.list_normal-p.ensures.is v
