@@ -1,15 +1,15 @@
 -- With mask 0 no bit comes up, so a search is the run.
 use Prim.Native.Nat.{ℕ, zero, suc, ◌+◌}
-use mathlib.Core.Bool.{Bool, true, false, cond, not, ◌&&◌}
-use mathlib.Core.Path.{◌≡◌, refl, sym, ap, ◌∙◌}
-use lib.Bits.{bit_and, and_zero_r}
+use mathlib.Core.Bool.{Bool, true, false, cond}
+use mathlib.Core.Path.{◌≡◌, refl, ap, ◌∙◌}
+use lib.Bits.{and_zero_r}
 use lib.Dec.{eqb}
 use Rattle.gte_registers.specs.Registers.{reg}
 use Rattle.cpu_state.specs.State.{State}
 use Rattle.cpu_perform.specs.Perform.{Tick}
 use Rattle.cpu_step.specs.Step.{step_of}
-use Rattle.run.specs.Run.{Run, ran, further, onwards, run_of}
-use Rattle.run.specs.Search.{clear_of, rises_of, found_of, Search, sought, further_by, search_on, search_of, searched_by}
+use Rattle.run.specs.Run.{Run, ran, onwards, run_of}
+use Rattle.run.specs.Search.{clear_of, rises_of, found_of, sought, search_on, search_of, searched_by}
 
 clear : (s : State) → clear_of 0 s ≡ true
 clear s = rw (and_zero_r (reg s.geometry 63))
