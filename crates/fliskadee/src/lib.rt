@@ -43,16 +43,14 @@ fn run_with(image: &mut [u8], ram: &mut [u8], pad: &mut [u8], count: u64, mask: 
 }
 
 // At most count steps of the machine that an image, RAM and pad describe.
-#[unsafe(no_mangle)]
-pub extern "C" fn fliskadee_run(image: &mut [u8], ram: &mut [u8], pad: &mut [u8], count: u64) -> u64
+pub fn fliskadee_run(image: &mut [u8], ram: &mut [u8], pad: &mut [u8], count: u64) -> u64
     ensures { answer result image.new (memory ram.new pad.new) ≡ answer_of image.old (memory ram.old pad.old) count }
 {
     run_with(image, ram, pad, count, 0)
 }
 
 // The same, ended after the first step at which a bit of the mask comes up in FLAG: code 16.
-#[unsafe(no_mangle)]
-pub extern "C" fn fliskadee_find_flag(
+pub fn fliskadee_find_flag(
     image: &mut [u8],
     ram: &mut [u8],
     pad: &mut [u8],
@@ -65,8 +63,7 @@ pub extern "C" fn fliskadee_find_flag(
 }
 
 // The window, as C can take it: in one number, which memory it is in, where it begins there, and how long it is.
-#[unsafe(no_mangle)]
-pub extern "C" fn fliskadee_window(ram: &[u8], pad: &[u8], address: u32, n: u64) -> u64
+pub fn fliskadee_window(ram: &[u8], pad: &[u8], address: u32, n: u64) -> u64
     ensures { result ≡ part_number (window_part (memory ram.now pad.now) address n) }
 {
     let p = part_of(Virt(address), n as usize, ram.len(), pad.len());
@@ -79,45 +76,35 @@ pub extern "C" fn fliskadee_window(ram: &[u8], pad: &[u8], address: u32, n: u64)
 }
 
 // Why bits of FLAG are set by a GTE command on the machine of an image: rows of five words.
-#[unsafe(no_mangle)]
-pub extern "C" fn fliskadee_causes(image: &[u8], word: u32, words: &mut [u32]) -> Answer
+pub fn fliskadee_causes(image: &[u8], word: u32, words: &mut [u32]) -> Answer
     ensures { Causes image.now word words.old result words.new }
 {
     list_causes(image, word, words)
 }
 
 // A machine written as one file to the front of the space.
-#[unsafe(no_mangle)]
-pub extern "C" fn fliskadee_save(image: &[u8], ram: &[u8], pad: &[u8], space: &mut [u8]) -> Answer
+pub fn fliskadee_save(image: &[u8], ram: &[u8], pad: &[u8], space: &mut [u8]) -> Answer
     ensures { saved result.code result.number space.new ≡ save_of image.now ram.now pad.now space.old }
 {
     save_machine(image, ram, pad, space)
 }
 
 // The machine of a file, read into image, RAM and pad.
-#[unsafe(no_mangle)]
-pub extern "C" fn fliskadee_load(
-    file: &[u8],
-    image: &mut [u8],
-    ram: &mut [u8],
-    pad: &mut [u8],
-) -> Answer
+pub fn fliskadee_load(file: &[u8], image: &mut [u8], ram: &mut [u8], pad: &mut [u8]) -> Answer
     ensures { Loads file.now image.old ram.old pad.old (loaded result.code result.number image.new ram.new pad.new) }
 {
     load_machine(file, image, ram, pad)
 }
 
 // Whether graphics words are whole packets: how many, or by which code and at which word they are refused.
-#[unsafe(no_mangle)]
-pub extern "C" fn fliskadee_draw_list(words: &[u32]) -> Answer
+pub fn fliskadee_draw_list(words: &[u32]) -> Answer
     ensures { Answered words.now result.code result.number }
 {
     check_list(words)
 }
 
 // Which interface the library was built with, so that a host can tell a header that is not its own (FLISKADEE_INTERFACE there).
-#[unsafe(no_mangle)]
-pub extern "C" fn fliskadee_interface() -> u32
+pub fn fliskadee_interface() -> u32
     ensures { result ≡ interface_number }
 {
     2
