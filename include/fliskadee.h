@@ -1,6 +1,6 @@
 /* Fliskadee: a software R3000A with its geometry unit (GTE), proved to do what its papers say.
  *
- * Link target/staticlib/libfliskadee.a, which host/library makes ("rt staticlib fliskadee"): one ELF object for x86-64. The library
+ * Link target/staticlib/libfliskadee.a, which host/library makes ("rt lib" of crates/fliskadee_c): one ELF object for x86-64. The library
  * keeps no state of its own, allocates nothing, and calls memcpy and nothing else: everything is in the buffers that the caller
  * lends. Calls on different buffers may run at the same time.
  *
