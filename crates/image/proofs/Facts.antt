@@ -1,14 +1,13 @@
 -- What the test of an image accepts.
-use Prim.Native.Nat.{ℕ, ◌<◌, ◌≤◌}
-use native.Mathlib.Omega.{arith}
-use mathlib.Core.Bool.{Bool, true, false, cond, and-eq-true_iff}
+use Prim.Native.Nat.{ℕ, ◌≤◌}
+use mathlib.Core.Bool.{Bool, true, false, and-eq-true_iff}
 use mathlib.Core.List.{List}
-use mathlib.Core.Path.{◌≡◌, refl, sym, ◌∙◌}
+use mathlib.Core.Path.{◌≡◌, refl}
 use lib.Dec.{eqb, leb}
 use lib.ListN.{get_or}
 use borrow.Author.Tests.{eqb-true, eq-eqb, leb-true, le-leb}
 use Rattle.gte_registers.specs.Registers.{reads, view, WellFormed}
-use Rattle.image.specs.Formed.{only, implies, same, pending_formed, system_formed, control_formed, geometry_formed, formed}
+use Rattle.image.specs.Formed.{only, implies, pending_formed, system_formed, control_formed, geometry_formed, formed}
 use Rattle.image.proofs.Comparing.{same_is, is_same}
 
 -- ---- the test, taken apart: r are words 0..31, w words 32..43, g words 44..107

@@ -1,6 +1,5 @@
 -- What load answers decides which of the three steps is taken, in the code as in load_step.
 use Rattle.cpu_perform.specs.Perform.{load_step}
-use borrow.Author.Rules.{rules}
 use Rattle.cpu_perform.proofs.do_load.Goals as goal
 
 pub returns-in-Value : goal.returns-in-Value

@@ -1,6 +1,5 @@
 -- What load answers decides which of the three steps is taken; a value is written into COP2.
 use Rattle.cpu_perform.specs.Perform.{load_geometry_step}
-use borrow.Author.Rules.{rules}
 use Rattle.cpu_perform.proofs.do_load_geometry.Goals as goal
 
 pub returns-in-Value : goal.returns-in-Value

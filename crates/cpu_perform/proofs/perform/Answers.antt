@@ -1,5 +1,4 @@
 -- Each effect is a clause of the definition, and what is called for it does that step.
-use borrow.Author.Rules.{rules}
 use mathlib.Core.Bool.{false}
 use mathlib.Core.Path.{ap}
 use Rattle.cpu_perform.specs.Perform.{tick, store_step, perform_of}

@@ -1,9 +1,5 @@
 -- A listed command is taken and the step goes on; before an unlisted one the machine stops as it was.
-use mathlib.Core.Path.{ap}
-use mathlib.Core.Bool.{false}
 use Rattle.gte.specs.Commands.{command_of}
-use Rattle.cpu_perform.specs.Perform.{tick}
-use borrow.Author.Rules.{rules}
 use Rattle.cpu_step.proofs.do_command.Goals as goal
 
 pub returns-in-Unlisted : goal.returns-in-Unlisted

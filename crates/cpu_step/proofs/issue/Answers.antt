@@ -1,5 +1,4 @@
 -- The word is executed where its coprocessor is usable, and traps otherwise, as the definition says.
-use borrow.Author.Rules.{rules}
 use Rattle.cpu_step.specs.Step.{issue_of}
 use Rattle.cpu_step.proofs.issue.Goals as goal
 

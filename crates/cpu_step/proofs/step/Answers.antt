@@ -1,5 +1,4 @@
 -- Each outcome of the fetch is a clause of the definition.
-use borrow.Author.Rules.{rules}
 use Rattle.cpu_step.specs.Step.{step_of}
 use Rattle.cpu_step.proofs.step.Goals as goal
 

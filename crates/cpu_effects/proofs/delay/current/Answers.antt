@@ -1,5 +1,5 @@
 -- The test is the specification's, and so is each read.
-use Rattle.std.proofs.Common.{rules, eq-eqb, ne_eqb}
+use Rattle.std.proofs.Common.{eq-eqb, ne_eqb}
 use Rattle.cpu_effects.specs.Delay.{current_of}
 use Rattle.cpu_effects.proofs.delay.current.Goals as goal
 

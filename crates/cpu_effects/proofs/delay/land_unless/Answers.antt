@@ -1,5 +1,5 @@
 -- The test is the specification's, and so is the write.
-use Rattle.std.proofs.Common.{rules, eq-eqb, ne_eqb}
+use Rattle.std.proofs.Common.{eq-eqb, ne_eqb}
 use Rattle.cpu_effects.specs.Delay.{landed_unless}
 use Rattle.cpu_effects.proofs.delay.land_unless.Goals as goal
 

@@ -1,5 +1,5 @@
 -- The test is the specification's, and so is each record.
-use Rattle.std.proofs.Common.{rules, eq-eqb, ne_eqb}
+use Rattle.std.proofs.Common.{eq-eqb, ne_eqb}
 use Rattle.cpu_effects.specs.Delay.{pending_of}
 use Rattle.cpu_effects.proofs.delay.to_wait.Goals as goal
 

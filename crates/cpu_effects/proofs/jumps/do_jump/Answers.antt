@@ -1,6 +1,5 @@
 -- The flow takes the target after the delay slot, and the load that waits lands.
 use Rattle.cpu_effects.specs.Jumps.{jump_step}
-use Rattle.std.proofs.Common.{rules}
 use Rattle.cpu_effects.proofs.jumps.do_jump.Goals as goal
 
 pub returns : goal.returns

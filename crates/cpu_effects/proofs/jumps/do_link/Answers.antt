@@ -1,6 +1,5 @@
 -- The load that waits lands before the link is written, and the flow takes the target.
 use Rattle.cpu_effects.specs.Jumps.{link_step}
-use Rattle.std.proofs.Common.{rules}
 use Rattle.cpu_effects.proofs.jumps.do_link.Goals as goal
 
 pub returns : goal.returns

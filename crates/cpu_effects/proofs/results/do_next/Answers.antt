@@ -1,6 +1,5 @@
 -- The flow goes on and the load that waits lands; nothing is left waiting.
 use Rattle.cpu_effects.specs.Effects.{next_step}
-use Rattle.std.proofs.Common.{rules}
 use Rattle.cpu_effects.proofs.results.do_next.Goals as goal
 
 pub returns : goal.returns

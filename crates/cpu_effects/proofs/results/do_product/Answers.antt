@@ -1,6 +1,5 @@
 -- The flow goes on, the load that waits lands, and HI and LO are replaced.
 use Rattle.cpu_effects.specs.Effects.{product_step}
-use Rattle.std.proofs.Common.{rules}
 use Rattle.cpu_effects.proofs.results.do_product.Goals as goal
 
 pub returns : goal.returns

@@ -1,6 +1,5 @@
 -- The flow goes on, the load that waits lands, and Cop0 is replaced.
 use Rattle.cpu_effects.specs.Effects.{system_step}
-use Rattle.std.proofs.Common.{rules}
 use Rattle.cpu_effects.proofs.results.do_system.Goals as goal
 
 pub returns : goal.returns

@@ -1,6 +1,5 @@
 -- The load that waits lands unless the register is loaded again, and the new value waits.
 use Rattle.cpu_effects.specs.Effects.{wait_step}
-use Rattle.std.proofs.Common.{rules}
 use Rattle.cpu_effects.proofs.results.do_wait.Goals as goal
 
 pub returns : goal.returns

@@ -1,6 +1,5 @@
 -- The load that waits lands before the register is written, so the write wins.
 use Rattle.cpu_effects.specs.Effects.{write_step}
-use Rattle.std.proofs.Common.{rules}
 use Rattle.cpu_effects.proofs.results.do_write.Goals as goal
 
 pub returns : goal.returns

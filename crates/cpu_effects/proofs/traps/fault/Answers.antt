@@ -1,6 +1,5 @@
 -- An address error is a trap of the control that has the address in BADV.
 use Rattle.cpu_effects.specs.Traps.{fault_step}
-use Rattle.std.proofs.Common.{rules}
 use Rattle.cpu_effects.proofs.traps.fault.Goals as goal
 
 pub returns : goal.returns

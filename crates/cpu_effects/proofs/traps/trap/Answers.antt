@@ -1,6 +1,5 @@
 -- The load that waits lands, and the control is the one that the exception leaves.
 use Rattle.cpu_effects.specs.Traps.{trap_step}
-use Rattle.std.proofs.Common.{rules}
 use Rattle.cpu_effects.proofs.traps.trap.Goals as goal
 
 pub returns : goal.returns

@@ -1,5 +1,4 @@
 -- Each arm tests the bit of its coprocessor.
-use Rattle.std.proofs.Common.{rules}
 use Rattle.cpu_state.specs.System.{usable_of}
 use Rattle.cpu_state.proofs.control.usable.Goals as goal
 

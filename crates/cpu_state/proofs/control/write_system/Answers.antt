@@ -1,5 +1,5 @@
 -- Each arm answers its row, and the rest is in no row.
-use Rattle.std.proofs.Common.{rules, ne_eqb}
+use Rattle.std.proofs.Common.{ne_eqb}
 use Rattle.cpu_state.specs.System.{write_system_of}
 use Rattle.cpu_state.proofs.control.write_system.Goals as goal
 

@@ -1,5 +1,4 @@
 -- The calls answer the vector, the sum after it and Cop0.
-use Rattle.std.proofs.Common.{rules}
 use Rattle.cpu_state.specs.Exceptions.{raised_of}
 use Rattle.cpu_state.proofs.exceptions.raise.Goals as goal
 

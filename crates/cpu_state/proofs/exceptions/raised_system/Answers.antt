@@ -1,5 +1,5 @@
 -- In a delay slot bit 31 is added and EPC is the branch's address; else neither.
-use Rattle.std.proofs.Common.{zero-add, lit<, rules, eq-eqb, ne_eqb}
+use Rattle.std.proofs.Common.{zero-add, lit<, eq-eqb, ne_eqb}
 use Rattle.cpu_state.specs.Exceptions.{raised_system}
 use Rattle.cpu_alu.proofs.Words.{difference}
 use Rattle.cpu_state.proofs.exceptions.raised_system.Goals as goal

@@ -1,8 +1,6 @@
 -- Each arm lists the parts of its row of the table, and the rest is in no row.
-use borrow.Author.Rules.{rules}
 use mathlib.Core.Path.{refl}
 use Prim.Native.Nat.{◌%◌}
-use native.Mathlib.Omega.{arith}
 use Rattle.tables.specs.Table.{NoneOf, lookup_none}
 use Rattle.gte.specs.Commands.{commands, parts_of, RTPS, NCLIP, OP, DPCS, INTPL, MVMVA, NCDS, CDP, NCDT, NCCS, CC, NCS, NCT, SQR, DCPL, DPCT, AVSZ3, AVSZ4, RTPT, GPF, GPL, NCCT, unlisted}
 use Rattle.gte_causes.proofs.Parts.{single, nothing, of}

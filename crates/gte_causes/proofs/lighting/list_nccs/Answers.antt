@@ -1,6 +1,4 @@
 -- The rows of lines 1 and 2, then those of the end.
-use borrow.Author.Rules.{rules}
-use native.Mathlib.Omega.{arith}
 use Rattle.gte_line.specs.Line.{line_checks_at}
 use Rattle.gte_colour.specs.Lights.{normal_line}
 use Rattle.gte_colour.proofs.CueingLines.{code}

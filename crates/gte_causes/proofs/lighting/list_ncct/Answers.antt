@@ -1,6 +1,4 @@
 -- Three parts, one after another.
-use borrow.Author.Rules.{rules}
-use native.Mathlib.Omega.{arith}
 use Rattle.gte_causes.proofs.Parts.{triple}
 use Rattle.gte_causes.proofs.lighting.list_ncct.Goals as goal
 

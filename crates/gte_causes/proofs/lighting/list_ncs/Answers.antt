@@ -1,6 +1,4 @@
 -- The rows of lines 1 and 2, then those of the same sums' IR and colours.
-use borrow.Author.Rules.{rules}
-use native.Mathlib.Omega.{arith}
 use Rattle.gte_line.specs.Line.{line_checks_at}
 use Rattle.gte_lighting.specs.Normals.{ncs_checks, last_checks}
 use Rattle.gte_rows.proofs.Listings.{then}

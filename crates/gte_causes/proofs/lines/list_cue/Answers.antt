@@ -1,6 +1,4 @@
 -- The rows of the difference, then those of what it is mixed to.
-use borrow.Author.Rules.{rules}
-use native.Mathlib.Omega.{arith}
 use mir.Syntax.{w16}
 use Rattle.integers.specs.Bound.{back}
 use Rattle.gte_colour.specs.Shade.{mixed_of}

@@ -1,6 +1,4 @@
 -- The rows of three cells, one after another.
-use borrow.Author.Rules.{rules}
-use native.Mathlib.Omega.{arith}
 use mir.Syntax.{w64}
 use Rattle.integers.specs.Bound.{back}
 use Rattle.gte_line.specs.Line.{line_checks_at}

@@ -1,6 +1,4 @@
 -- The rows of line 1, then those of line 2, which starts from line 1's IR.
-use borrow.Author.Rules.{rules}
-use native.Mathlib.Omega.{arith}
 use Rattle.gte_line.specs.Line.{line_checks_at}
 use Rattle.gte_rows.proofs.Listings.{then}
 use Rattle.gte_causes.proofs.lines.list_normal.Goals as goal

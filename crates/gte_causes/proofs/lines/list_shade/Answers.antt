@@ -1,6 +1,4 @@
 -- The rows of three channels, one after another.
-use borrow.Author.Rules.{rules}
-use native.Mathlib.Omega.{arith}
 use mir.Syntax.{w64}
 use Rattle.integers.specs.Bound.{back}
 use Rattle.gte_colour.specs.Shade.{shade_checks}

@@ -1,6 +1,4 @@
 -- The rows of three cells, each with a sum to test and another to store.
-use borrow.Author.Rules.{rules}
-use native.Mathlib.Omega.{arith}
 use mir.Syntax.{w64}
 use Rattle.integers.specs.Bound.{back}
 use Rattle.gte_matrix.specs.Multiply.{far_checks}

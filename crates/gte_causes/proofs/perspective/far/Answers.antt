@@ -1,5 +1,4 @@
 -- The wrapped sum, shifted.
-use borrow.Author.Rules.{rules}
 use mir.Syntax.{w64}
 use mir.Facts.{to_z-of_z}
 use Rattle.integers.specs.Bound.{back}

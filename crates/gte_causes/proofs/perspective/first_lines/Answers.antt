@@ -1,5 +1,4 @@
 -- IR1, IR2 and SZ3 as the command has them; SZ3 has 16 bits.
-use borrow.Author.Rules.{rules}
 use mir.Syntax.{w16, w64}
 use Rattle.integers.specs.Bound.{back}
 use Rattle.gte_line.specs.Line.{cell_of}

@@ -1,6 +1,4 @@
 -- The rows of MAC0, then that of IR0 from its exact value.
-use borrow.Author.Rules.{rules}
-use native.Mathlib.Omega.{arith}
 use mir.Syntax.{w64}
 use mir.Facts.{to_z-of_z}
 use Rattle.integers.specs.Bound.{back}

@@ -1,6 +1,4 @@
 -- The rows of each line in turn; lines 5 to 7 read what the first lines leave.
-use borrow.Author.Rules.{rules}
-use native.Mathlib.Omega.{arith}
 use mir.Syntax.{w16, w64}
 use Rattle.integers.specs.Bound.{back}
 use Rattle.gte_perspective.specs.Projection.{vertex_checks}

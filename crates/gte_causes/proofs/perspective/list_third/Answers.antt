@@ -1,6 +1,4 @@
 -- The rows of the third sum, then those of Z.
-use borrow.Author.Rules.{rules}
-use native.Mathlib.Omega.{arith}
 use mir.Syntax.{w64}
 use mir.Facts.{to_z-of_z}
 use Rattle.integers.specs.Bound.{back}

@@ -1,6 +1,4 @@
 -- The row of the quotient, then those of lines 5, 6 and 7.
-use borrow.Author.Rules.{rules}
-use native.Mathlib.Omega.{arith}
 use mir.Syntax.{w64}
 use mir.Facts.{to_z-of_z}
 use Rattle.integers.specs.Bound.{back}

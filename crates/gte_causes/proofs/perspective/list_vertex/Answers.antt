@@ -1,5 +1,4 @@
 -- The sums are those of the registers.
-use borrow.Author.Rules.{rules}
 use Rattle.gte_perspective.specs.Vertices.{rotated}
 use Rattle.gte_causes.proofs.perspective.list_vertex.Goals as goal
 

@@ -1,6 +1,4 @@
 -- The rows of line 1, then those of the end.
-use borrow.Author.Rules.{rules}
-use native.Mathlib.Omega.{arith}
 use Rattle.gte_colour.proofs.CueingLines.{code}
 use Rattle.gte_rows.proofs.Listings.{then}
 use Rattle.gte_causes.proofs.shading.list_cc.Goals as goal

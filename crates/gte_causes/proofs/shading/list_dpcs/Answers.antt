@@ -1,5 +1,4 @@
 -- It starts from RGBC.
-use borrow.Author.Rules.{rules}
 use Rattle.gte_colour.proofs.CueingLines.{code}
 use Rattle.gte_causes.proofs.shading.list_dpcs.Goals as goal
 

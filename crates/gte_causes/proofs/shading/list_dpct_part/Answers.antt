@@ -1,5 +1,4 @@
 -- It starts from the queue's colour.
-use borrow.Author.Rules.{rules}
 use Rattle.gte_shading.proofs.Queue.{place}
 use Rattle.gte_causes.proofs.shading.list_dpct_part.Goals as goal
 

@@ -1,5 +1,4 @@
 -- The matrix at register 40.
-use borrow.Author.Rules.{rules}
 use Rattle.gte_inputs.specs.Inputs.{inputs_of}
 use Rattle.gte_inputs.proofs.matrices.light.Goals as goal
 

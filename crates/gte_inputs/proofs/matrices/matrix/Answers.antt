@@ -1,5 +1,4 @@
 -- Nine halves of five words.
-use borrow.Author.Rules.{rules}
 use mir.Syntax.{w16}
 use Rattle.integers.specs.Bound.{back}
 use Rattle.gte_inputs.specs.Inputs.{matrix_of}

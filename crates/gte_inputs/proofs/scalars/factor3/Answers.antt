@@ -1,5 +1,4 @@
 -- The low half of register 61.
-use borrow.Author.Rules.{rules}
 use mir.Syntax.{w16}
 use Rattle.integers.specs.Bound.{back}
 use Rattle.gte_inputs.specs.Inputs.{inputs_of}

@@ -1,5 +1,4 @@
 -- Four low halves, each below 2^16.
-use borrow.Author.Rules.{rules}
 use mathlib.Core.Path.{refl}
 use Rattle.gte_inputs.specs.Inputs.{inputs_of}
 use Rattle.gte_inputs.proofs.scalars.four_depths.Goals as goal

@@ -1,5 +1,4 @@
 -- Four registers and the low half of H.
-use borrow.Author.Rules.{rules}
 use mir.Syntax.{w16, w32}
 use Rattle.integers.specs.Bound.{back}
 use Rattle.gte_inputs.specs.Inputs.{inputs_of}

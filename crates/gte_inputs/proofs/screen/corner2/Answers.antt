@@ -1,5 +1,4 @@
 -- The point in register 14.
-use borrow.Author.Rules.{rules}
 use Rattle.gte_inputs.specs.Inputs.{inputs_of}
 use Rattle.gte_inputs.proofs.screen.corner2.Goals as goal
 

@@ -1,5 +1,4 @@
 -- The three words at register 45.
-use borrow.Author.Rules.{rules}
 use Rattle.gte_inputs.specs.Inputs.{inputs_of}
 use Rattle.gte_inputs.proofs.vectors.background.Goals as goal
 

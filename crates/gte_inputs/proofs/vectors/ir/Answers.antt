@@ -1,5 +1,4 @@
 -- Three low halves.
-use borrow.Author.Rules.{rules}
 use mir.Syntax.{w16}
 use Rattle.integers.specs.Bound.{back}
 use Rattle.gte_inputs.specs.Inputs.{inputs_of}

@@ -1,5 +1,4 @@
 -- Three signed words.
-use borrow.Author.Rules.{rules}
 use mir.Syntax.{w32}
 use Rattle.integers.specs.Bound.{back}
 use Rattle.gte_inputs.specs.Inputs.{long_of}

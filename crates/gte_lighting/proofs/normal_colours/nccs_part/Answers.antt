@@ -1,5 +1,4 @@
 -- Lines 1 and 2, then the end from the colour by their IR.
-use borrow.Author.Rules.{rules}
 use mathlib.Core.Path.{◌≡◌}
 use mathlib.Core.Bool.{Bool}
 use Prim.Native.Nat.{ℕ}

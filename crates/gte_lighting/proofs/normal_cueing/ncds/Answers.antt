@@ -1,5 +1,4 @@
 -- What the part gives of the storage is left; commands read the same of its view.
-use borrow.Author.Rules.{rules}
 use Rattle.gte_inputs.proofs.Views.{inputs_view}
 use Rattle.gte_lighting.proofs.normal_cueing.ncds.Goals as goal
 

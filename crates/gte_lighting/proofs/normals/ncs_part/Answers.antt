@@ -1,5 +1,4 @@
 -- Line 1, then the end from the sums of line 2, whose IR is limited twice from the same MAC.
-use borrow.Author.Rules.{rules}
 use mathlib.Core.Path.{◌≡◌}
 use mathlib.Core.Bool.{Bool}
 use mathlib.Core.List.{◌++◌}

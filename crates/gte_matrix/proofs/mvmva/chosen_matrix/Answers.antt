@@ -1,5 +1,4 @@
 -- Each arm gives the matrix of its number.
-use borrow.Author.Rules.{rules}
 use mir.Syntax.{w16}
 use Rattle.integers.specs.Bound.{back}
 use Rattle.gte_matrix.specs.Multiply.{matrix_by}

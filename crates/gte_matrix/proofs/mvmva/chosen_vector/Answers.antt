@@ -1,5 +1,4 @@
 -- Each arm gives the vector of its number.
-use borrow.Author.Rules.{rules}
 use Rattle.gte_matrix.specs.Multiply.{vector_by}
 use Rattle.gte_matrix.proofs.Choices.{the_last}
 use Rattle.gte_matrix.proofs.mvmva.chosen_vector.Goals as goal

@@ -1,5 +1,4 @@
 -- With FC the line of third products, else the line of the full sum.
-use borrow.Author.Rules.{rules}
 use borrow.Author.Tests.{eq-eqb, ne_eqb}
 use mathlib.Core.Path.{refl}
 use Rattle.gte_arithmetic.specs.Checks.{flags}

@@ -1,5 +1,4 @@
 -- The flags of the full sum and those of the line of third products, which are too small to fail the test of a sum.
-use borrow.Author.Rules.{rules}
 use mathlib.Core.Path.{◌≡◌, refl}
 use mathlib.Core.Bool.{Bool, false}
 use Prim.Native.Nat.{ℕ, ◌-◌, ◌^◌}

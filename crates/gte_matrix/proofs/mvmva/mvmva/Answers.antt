@@ -1,5 +1,4 @@
 -- The product of what the word chooses is left.
-use borrow.Author.Rules.{rules}
 use Rattle.gte_matrix.specs.Multiply.{mvmva_of}
 use Rattle.gte_inputs.proofs.Views.{inputs_view}
 use Rattle.gte_matrix.proofs.mvmva.mvmva.Goals as goal

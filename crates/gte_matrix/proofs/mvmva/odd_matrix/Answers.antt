@@ -1,5 +1,4 @@
 -- The two entries that are read, and the factor, fit.
-use borrow.Author.Rules.{rules}
 use mir.Syntax.{w16}
 use mir.Facts.{to_z-of_z}
 use Rattle.integers.specs.Bound.{back}

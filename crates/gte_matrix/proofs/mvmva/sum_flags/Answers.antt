@@ -1,5 +1,4 @@
 -- The flags of the three tests are those of the checks of three sums.
-use borrow.Author.Rules.{rules}
 use mathlib.Core.Path.{◌≡◌}
 use mir.Syntax.{w64}
 use Rattle.integers.specs.Bound.{back}

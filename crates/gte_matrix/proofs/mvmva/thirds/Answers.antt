@@ -1,8 +1,6 @@
 -- Three products of two signed halves, each below 2^30 + 1.
-use borrow.Author.Rules.{rules}
-use lib.Dec.{lit≤}
 use mir.Syntax.{w16, w64}
-use Rattle.integers.specs.Bound.{back, mag_le}
+use Rattle.integers.specs.Bound.{back}
 use Rattle.gte_sums.specs.Sums.{entry}
 use Rattle.gte_matrix.specs.Multiply.{thirds_of}
 use Rattle.gte_matrix.proofs.mvmva.thirds.Goals as goal

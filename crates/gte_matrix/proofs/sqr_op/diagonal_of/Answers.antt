@@ -1,5 +1,4 @@
 -- The three entries that are read fit.
-use borrow.Author.Rules.{rules}
 use mir.Syntax.{w16}
 use Rattle.integers.specs.Bound.{back}
 use Rattle.gte_sums.specs.Sums.{entry}

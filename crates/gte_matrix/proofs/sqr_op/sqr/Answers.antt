@@ -1,5 +1,4 @@
 -- The line of the squares is left.
-use borrow.Author.Rules.{rules}
 use mathlib.Core.Path.{refl}
 use Rattle.gte_arithmetic.specs.Checks.{flags}
 use Rattle.gte_line.specs.Line.{line_of, line_checks_at}

@@ -1,16 +1,11 @@
 -- Each arm is what the definition's limit gives for the tests that led there.
-use borrow.Author.Rules.{rules}
 use mathlib.Core.Path.{◌≡◌}
-use mathlib.Core.Bool.{false}
 use Prim.Native.Nat.{◌^◌, ◌<◌}
-use lib.Dec.{T, lit<}
-use lib.IntN.{ℤ, pos, nat_abs}
-use lib.Signed.{shr_z, lt_z, mag, non_neg}
+use lib.IntN.{ℤ}
+use lib.Signed.{shr_z, mag}
 use mir.Syntax.{w16, w32}
-use mir.Val.{Fits, to_z, of_z}
+use mir.Val.{to_z, of_z}
 use mir.Facts.{to_z-of_z}
-use Rattle.integers.specs.Parts.{pos_part, neg_part, zarith, nat_abs_gap, lt_no}
-use Rattle.integers.specs.Bits.{unsign}
 use Rattle.integers.specs.Bound.{back, fit, known, mag_shr}
 use Rattle.integers.specs.Clamp.{clamp}
 use Rattle.gte_registers.specs.Registers.{field}

@@ -1,7 +1,6 @@
 -- The two arms are the two sides of the definition's choice; the masked bits lie below bit 31.
-use native.Mathlib.Omega.{arith}
 use native.Mathlib.Nat.{zero-add}
-use lib.Bits.{bit_and, and_le_r}
+use lib.Bits.{bit_and}
 use borrow.Author.Tests.{eq-eqb, ne_eqb}
 use Rattle.gte_arithmetic.specs.Checks.{flag_word, counted}
 use Rattle.gte_registers.proofs.reads.flag_bits.Goals as goal

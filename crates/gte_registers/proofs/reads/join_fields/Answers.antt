@@ -1,5 +1,4 @@
 -- The sum of the three fields, each at its place; none is above 31, so nothing overflows.
-use borrow.Author.Rules.{rules}
 use Rattle.gte_registers.specs.Registers.{fields_of}
 use Rattle.gte_registers.proofs.reads.join_fields.Goals as goal
 

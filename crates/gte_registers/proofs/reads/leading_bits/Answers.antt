@@ -1,5 +1,4 @@
 -- The leading zeros of the word or of its complement, by the sign.
-use borrow.Author.Rules.{rules}
 use Rattle.gte_registers.proofs.Leading.{leading_low, leading_high}
 use Rattle.gte_registers.proofs.reads.leading_bits.Goals as goal
 

@@ -1,5 +1,4 @@
 -- Each arm is what the table of kinds says of its number, and a number with no arm is not in the table.
-use borrow.Author.Rules.{rules}
 use mathlib.Core.Path.{refl}
 use Rattle.tables.specs.Table.{NoneOf}
 use Rattle.gte_arithmetic.specs.Checks.{flag_word}

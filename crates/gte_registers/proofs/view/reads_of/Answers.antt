@@ -1,5 +1,4 @@
 -- The words that are taken over are those that are not plain, so all 64 are what reads return.
-use borrow.Author.Rules.{rules}
 use Rattle.gte_registers.proofs.Taking.{all_taken}
 use Rattle.gte_registers.proofs.view.reads_of.Goals as goal
 

@@ -1,5 +1,4 @@
 -- Three writes, of what was read before the first of them.
-use borrow.Author.Rules.{rules}
 use mathlib.Core.Path.{refl}
 use Rattle.gte_registers.specs.Registers.{pushed_xy}
 use Rattle.gte_registers.proofs.writes.push_xy.Goals as goal

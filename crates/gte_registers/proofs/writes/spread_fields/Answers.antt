@@ -1,5 +1,4 @@
 -- Each of the three writes is that of the definition.
-use borrow.Author.Rules.{rules}
 use mathlib.Core.Path.{refl}
 use Rattle.gte_registers.specs.Registers.{spread_fields}
 use Rattle.gte_registers.proofs.writes.spread_fields.Goals as goal

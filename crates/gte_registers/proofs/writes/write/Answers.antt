@@ -1,5 +1,4 @@
 -- Each arm leaves the storage that the definition of a write gives, and such a write is seen through the view.
-use borrow.Author.Rules.{rules}
 use mathlib.Core.Path.{refl}
 use Rattle.gte_registers.specs.Registers.{written}
 use Rattle.gte_registers.proofs.Writing.{seen_key, seen_rest}

@@ -1,5 +1,4 @@
 -- MAC0, OTZ and FLAG are seen as written to the words.
-use borrow.Author.Rules.{rules}
 use mir.Syntax.{w32}
 use Rattle.integers.specs.Bound.{back}
 use Rattle.gte_results.specs.AverageEffects.{average_left}

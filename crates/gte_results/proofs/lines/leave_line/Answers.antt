@@ -1,5 +1,4 @@
 -- The storage after the writes is the line left on the storage, and so on the words that reads return.
-use borrow.Author.Rules.{rules}
 use Rattle.gte_results.specs.Effects.{line_left, flagged}
 use Rattle.gte_results.proofs.LinesViews.{line_view}
 use Rattle.gte_results.proofs.lines.leave_line.Goals as goal

@@ -1,10 +1,9 @@
 -- Each word takes the bits of its number; an IR is widened to a word first, which keeps it.
-use borrow.Author.Rules.{rules}
 use Prim.Native.Nat.{◌<◌, ◌^◌}
 use lib.IntN.{ℤ}
 use lib.Signed.{mag}
 use mir.Syntax.{w16, w32}
-use mir.Val.{SFits, to_z, of_z}
+use mir.Val.{SFits}
 use mir.Facts.{to_z-of_z, sfits_widen}
 use Rattle.integers.specs.Bound.{back}
 use Rattle.gte_results.specs.Effects.{stored}

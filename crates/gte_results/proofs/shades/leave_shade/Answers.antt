@@ -1,5 +1,4 @@
 -- The colour is pushed, MAC, IR and FLAG are written: what is left is seen so.
-use borrow.Author.Rules.{rules}
 use Rattle.gte_results.specs.Effects.{flagged}
 use Rattle.gte_results.specs.ShadeEffects.{shade_left}
 use Rattle.gte_results.proofs.ShadesViews.{shade_view}

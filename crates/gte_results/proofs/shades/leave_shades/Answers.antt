@@ -1,5 +1,4 @@
 -- The three colours are pushed, MAC and IR of the last part and the flags of all are written: what is left is seen so.
-use borrow.Author.Rules.{rules}
 use Rattle.gte_arithmetic.specs.Checks.{or}
 use Rattle.gte_results.specs.Effects.{flagged}
 use Rattle.gte_results.specs.ShadeEffects.{shades_left}

@@ -1,5 +1,4 @@
 -- The three words of the queue, as they are written.
-use borrow.Author.Rules.{rules}
 use mathlib.Core.Path.{refl}
 use Rattle.gte_results.specs.ShadeEffects.{pushed_colour}
 use Rattle.gte_results.proofs.shades.push_colour.Goals as goal

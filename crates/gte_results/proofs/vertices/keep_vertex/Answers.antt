@@ -1,5 +1,4 @@
 -- MAC0, IR0, then MAC1..3 and IR1..3, then FLAG.
-use borrow.Author.Rules.{rules}
 use mir.Syntax.{w32}
 use Rattle.integers.specs.Bound.{back}
 use Rattle.gte_results.specs.VertexEffects.{vertex_kept}

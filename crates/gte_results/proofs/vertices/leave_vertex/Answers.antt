@@ -1,5 +1,4 @@
 -- What is written to the storage is seen as written to the words.
-use borrow.Author.Rules.{rules}
 use Rattle.gte_results.specs.VertexEffects.{vertex_left}
 use Rattle.gte_results.proofs.VerticesViews.{vertex_view}
 use Rattle.gte_results.proofs.vertices.leave_vertex.Goals as goal

@@ -1,5 +1,4 @@
 -- As for one vertex, with three in the queues.
-use borrow.Author.Rules.{rules}
 use Rattle.gte_results.proofs.VerticesViews.{vertices_view}
 use Rattle.gte_results.proofs.vertices.leave_vertices.Goals as goal
 

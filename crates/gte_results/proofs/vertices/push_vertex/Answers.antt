@@ -1,5 +1,4 @@
 -- The depth queue, then the screen queue.
-use borrow.Author.Rules.{rules}
 use Rattle.gte_results.specs.VertexEffects.{pushed_vertex}
 use Rattle.gte_results.proofs.vertices.push_vertex.Goals as goal
 

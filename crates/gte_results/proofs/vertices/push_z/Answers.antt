@@ -1,5 +1,4 @@
 -- The three older depths move down, and the new one is last.
-use borrow.Author.Rules.{rules}
 use mathlib.Core.Path.{refl}
 use Rattle.gte_results.specs.VertexEffects.{pushed_z}
 use Rattle.gte_results.proofs.vertices.push_z.Goals as goal

@@ -1,5 +1,4 @@
 -- The test compares the value itself.
-use borrow.Author.Rules.{rules}
 use mir.Facts.{to_z-of_z}
 use Rattle.gte_rows.proofs.Listings.{one}
 use Rattle.gte_rows.proofs.checks.list_below.Goals as goal

@@ -1,5 +1,4 @@
 -- A value is outside where it is not within.
-use borrow.Author.Rules.{rules}
 use mathlib.Core.Bool.{Bool, true, false, not}
 use mathlib.Core.Path.{◌≡◌, refl}
 use mir.Facts.{to_z-of_z}

@@ -1,6 +1,4 @@
 -- The rows of the sum, then that of IR from the stored value.
-use borrow.Author.Rules.{rules}
-use native.Mathlib.Omega.{arith}
 use mir.Syntax.{w32, w64}
 use mir.Facts.{to_z-of_z, sfits_widen}
 use Rattle.integers.specs.Bound.{back}

@@ -1,5 +1,4 @@
 -- The two words are H and SZ3.
-use borrow.Author.Rules.{rules}
 use Rattle.gte_rows.proofs.Listings.{one}
 use Rattle.gte_rows.proofs.checks.list_division.Goals as goal
 

@@ -1,6 +1,4 @@
 -- The row of IR, then that of the colour, from the same stored value.
-use borrow.Author.Rules.{rules}
-use native.Mathlib.Omega.{arith}
 use mir.Syntax.{w32, w64}
 use mir.Facts.{to_z-of_z, sfits_widen}
 use Rattle.integers.specs.Bound.{back}

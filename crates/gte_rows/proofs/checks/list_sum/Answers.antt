@@ -1,6 +1,4 @@
 -- The row above, then the row below.
-use borrow.Author.Rules.{rules}
-use native.Mathlib.Omega.{arith}
 use mir.Facts.{to_z-of_z}
 use Rattle.gte_rows.proofs.Listings.{then}
 use Rattle.gte_rows.proofs.checks.list_sum.Goals as goal

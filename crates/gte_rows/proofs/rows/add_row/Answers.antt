@@ -1,7 +1,4 @@
 -- Five stores one after another, or none where the row does not fit.
-use borrow.Author.Rules.{rules}
-use native.Mathlib.Omega.{arith}
-use lib.ListN.{length-set}
 use Rattle.gte_rows.proofs.Listings.{row_short, row_put}
 use Rattle.gte_rows.proofs.rows.add_row.Goals as goal
 

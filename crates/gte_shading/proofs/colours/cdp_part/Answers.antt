@@ -1,5 +1,4 @@
 -- Line 1, then the depth cue of the colour by its IR.
-use borrow.Author.Rules.{rules}
 use mathlib.Core.Path.{◌≡◌}
 use mathlib.Core.Bool.{Bool}
 use Rattle.gte_line.specs.Line.{line_of}

@@ -1,5 +1,4 @@
 -- The depth cue of the colour is left; commands read the same of the view as of the storage.
-use borrow.Author.Rules.{rules}
 use Rattle.gte_colour.proofs.CueingLines.{code}
 use Rattle.gte_inputs.proofs.Views.{inputs_view}
 use Rattle.gte_shading.proofs.depth_cueing.dpcs.Goals as goal

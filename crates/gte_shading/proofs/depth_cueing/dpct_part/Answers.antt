@@ -1,5 +1,4 @@
 -- The depth cue of the colour that stands at that place of the queue.
-use borrow.Author.Rules.{rules}
 use Rattle.gte_shading.proofs.Queue.{place}
 use Rattle.gte_shading.proofs.depth_cueing.dpct_part.Goals as goal
 

@@ -1,5 +1,4 @@
 -- The end from the products on top of MAC.
-use borrow.Author.Rules.{rules}
 use mathlib.Core.Path.{◌≡◌}
 use mathlib.Core.Bool.{Bool}
 use mir.Syntax.{w16}

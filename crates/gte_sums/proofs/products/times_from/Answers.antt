@@ -1,5 +1,4 @@
 -- A product has 31 bits and MAC by 4096 has 44, so that their sum fits 64.
-use borrow.Author.Rules.{rules}
 use mathlib.Core.Path.{◌≡◌}
 use Prim.Native.Nat.{◌*◌, ◌^◌}
 use lib.Dec.{lit≤}
@@ -9,7 +8,7 @@ use mir.Facts.{to_z-of_z}
 use Rattle.integers.specs.Parts.{Mag, zarith}
 use Rattle.integers.specs.Product.{pos_part_scale, neg_part_scale}
 use Rattle.integers.specs.Bound.{back, fit, arg, mag_scale, mag_add, mag_le}
-use Rattle.gte_sums.proofs.Widen.{widens, widened}
+use Rattle.gte_sums.proofs.Widen.{widened}
 use Rattle.gte_sums.proofs.products.times_from.Goals as goal
 
 by_one : (m : ℤ) → m *ℤ pos 1 ≡ m

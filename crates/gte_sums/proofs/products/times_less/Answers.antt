@@ -1,5 +1,4 @@
 -- Each product has 31 bits, so that their difference fits 64.
-use borrow.Author.Rules.{rules}
 use Prim.Native.Nat.{◌*◌, ◌^◌}
 use lib.Dec.{lit≤}
 use lib.IntN.{◌-ℤ◌}

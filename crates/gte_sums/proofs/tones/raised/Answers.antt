@@ -9,7 +9,7 @@ use mir.Facts.{to_z-of_z}
 use Rattle.integers.specs.Parts.{Mag}
 use Rattle.integers.specs.Bound.{fit, arg, mag_scale, mag_le}
 use Rattle.gte_sums.specs.Tones.{raised_of}
-use Rattle.gte_sums.proofs.Widen.{widens, widened}
+use Rattle.gte_sums.proofs.Widen.{widened}
 use Rattle.gte_sums.proofs.tones.raised.Goals as goal
 
 small : {z : ℤ} → SFits w16 z → Mag (z *ℤ pos 4096) (2 ^ 28)

@@ -1,5 +1,4 @@
 -- The three rows.
-use borrow.Author.Rules.{rules}
 use mir.Syntax.{w32, w64}
 use Rattle.integers.specs.Bound.{back}
 use Rattle.gte_sums.specs.Sums.{product_of}

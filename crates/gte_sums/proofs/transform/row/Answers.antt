@@ -1,5 +1,4 @@
 -- The row's three entries, and the sum over them.
-use borrow.Author.Rules.{rules}
 use mir.Syntax.{w16, w64}
 use mir.Facts.{to_z-of_z}
 use Rattle.integers.specs.Bound.{back}

@@ -1,8 +1,6 @@
 -- The words are read where the image has its length; the code is that of the two tests.
-use borrow.Author.Rules.{rules}
 use mathlib.Core.Path.{sym}
-use Rattle.image.specs.Image.{geometry_in}
-use Rattle.image.proofs.Refusals.{refused_length, words_kept, words_read, formed_code}
+use Rattle.image.proofs.Refusals.{refused_length, formed_code}
 use Rattle.image.proofs.admission.read_geometry.Goals as goal
 
 pub returns-then-image-ne432-clause-is : goal.returns-then-image-ne432-clause-is

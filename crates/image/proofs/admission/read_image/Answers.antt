@@ -1,7 +1,6 @@
 -- The words are read where the image has its length, and are zeros else; the code is that of the two tests.
 use mathlib.Core.Path.{sym}
 use Rattle.image.proofs.Refusals.{read_other, read_whole}
-use borrow.Author.Rules.{rules}
 use Rattle.image.proofs.admission.read_image.Goals as goal
 
 pub returns-then-image-ne432 : goal.returns-then-image-ne432

@@ -1,7 +1,6 @@
 -- The three rows fill the image.
 use native.Mathlib.Omega.{arith}
 use Rattle.image.proofs.Whole.{image_bytes}
-use borrow.Author.Rules.{rules}
 use Rattle.image.proofs.bytes.write_image.Goals as goal
 
 pub returns : goal.returns

@@ -1,6 +1,5 @@
 use borrow.Author.Tests.{lt-leb, le-leb, eq-eqb, ne_eqb}
 use Rattle.image.specs.Formed.{control_formed}
-use borrow.Author.Rules.{rules}
 use Rattle.image.proofs.formed.control_formed.Goals as goal
 
 pub returns-then-w-gt1 : goal.returns-then-w-gt1

@@ -1,7 +1,6 @@
 -- The words are compared with what reads return.
 use Rattle.gte_registers.specs.Registers.{view}
 use Rattle.image.specs.Formed.{geometry_formed}
-use borrow.Author.Rules.{rules}
 use Rattle.image.proofs.formed.geometry_formed.Goals as goal
 
 pub returns : goal.returns

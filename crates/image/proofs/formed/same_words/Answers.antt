@@ -1,10 +1,5 @@
 -- What is left of the two rows decides.
-use borrow.Author.Rules.{rules}
-use native.Mathlib.Omega.{arith}
-use mathlib.Core.Path.{refl}
-use Prim.Native.Nat.{◌-◌}
-use lib.ListN.{length}
-use Rattle.image.proofs.Comparing.{Comparing, comparing_none, comparing_differ, comparing_more, comparing_all}
+use Rattle.image.proofs.Comparing.{comparing_differ, comparing_more, comparing_all}
 use Rattle.image.proofs.formed.same_words.Goals as goal
 
 pub returns-then-a-i : goal.returns-then-a-i

@@ -1,7 +1,6 @@
 -- The tests are the definition's.
 use borrow.Author.Tests.{eq-eqb, ne_eqb}
 use Rattle.image.specs.Formed.{formed}
-use borrow.Author.Rules.{rules}
 use Rattle.image.proofs.formed.well_formed.Goals as goal
 
 pub returns-then-registers-ne0 : goal.returns-then-registers-ne0
