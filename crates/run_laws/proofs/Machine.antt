@@ -1,5 +1,5 @@
 -- An accepted image describes a formed machine, and the image of a formed machine is accepted and describes it.
-use Prim.Native.Nat.{ℕ, ◌+◌}
+use Prim.Native.Nat.{ℕ}
 use native.Mathlib.Omega.{arith}
 use mathlib.Core.List.{List, ◌++◌}
 use mathlib.Core.Path.{◌≡◌, refl, sym, ap, ◌∙◌}
@@ -11,7 +11,6 @@ use Rattle.gte_registers.specs.Registers.{reads, WellFormed}
 use Rattle.memory.specs.Memory.{Memory}
 use Rattle.cpu_state.specs.State.{State}
 use Rattle.image.specs.Image.{registers_in, control_in, geometry_in, control_words, machine_of, image_of}
-use Rattle.image.specs.Formed.{formed}
 use Rattle.image.proofs.Facts.{formed_in, formed_out}
 use Rattle.image.proofs.Whole.{Back, back}
 use Rattle.step_laws.specs.Formed.{StateFormed}

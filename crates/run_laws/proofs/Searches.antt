@@ -7,9 +7,8 @@ use mathlib.Core.Path.{◌≡◌, refl, sym, ap, ap₂, ◌∙◌}
 use lib.Dec.{eqb}
 use borrow.Author.Tests.{eqb-true, eqb-false}
 use Rattle.cpu_state.specs.State.{State}
-use Rattle.cpu_perform.specs.Perform.{Tick, tick}
 use Rattle.cpu_step.specs.Step.{step_of}
-use Rattle.run.specs.Run.{Run, ran, onwards, run_of}
+use Rattle.run.specs.Run.{Run, ran, run_of}
 use Rattle.run.proofs.Steps.{goes_on}
 use Rattle.run.specs.Search.{rises_of, found_of, Search, sought, further_by, search_on, search_of}
 use Rattle.step_laws.proofs.Kept.{step_kept}

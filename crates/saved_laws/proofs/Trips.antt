@@ -14,7 +14,7 @@ use Rattle.memory.specs.Addresses.{ram_length}
 use Rattle.image.specs.Formed.{well_formed}
 use Rattle.image.specs.Refusals.{first_of}
 use Rattle.image.proofs.Refusals.{all_pass}
-use Rattle.saved_format.specs.Format.{Bytes, Machine, machine, Means}
+use Rattle.saved_format.specs.Format.{Bytes, Machine, Means}
 use Rattle.saved_format.specs.Writing.{file_of}
 use Rattle.saved_format.proofs.Theorems.{file_is, round_trip, words_all, whole}
 use Rattle.saved.specs.Refusals.{length_tests, length_code}

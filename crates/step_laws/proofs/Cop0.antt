@@ -1,10 +1,9 @@
 -- Cop0 bit by bit: a word of two parts has the bits of its parts, and each sum of Cop0 is such parts in each other.
-use Prim.Native.Nat.{ℕ, suc, ◌+◌, ◌-◌, ◌*◌, ◌/◌, ◌%◌, ◌^◌, ◌<◌, ◌≤◌}
+use Prim.Native.Nat.{ℕ, ◌+◌, ◌-◌, ◌*◌, ◌/◌, ◌%◌, ◌^◌, ◌<◌}
 use native.Mathlib.Omega.{arith}
 use native.Mathlib.Nat.{zero-div}
 use mathlib.Core.Bool.{Bool, true, false, ◌&&◌}
 use mathlib.Core.Path.{◌≡◌, refl, sym, ap, ◌∙◌}
-use lib.Bits.{bit_and}
 use lib.Dec.{eqb, lit<}
 use lib.Pow.{shr-shr, split, high, low, field, mod-mod-pow}
 use Rattle.words.specs.Words.{bit_at}
@@ -12,8 +11,6 @@ use Rattle.gte_arithmetic.proofs.Flags.{and_bit}
 use Rattle.cpu_alu.specs.Modular.{bit}
 use Rattle.cpu_state.specs.System.{write_system_of, restored_of}
 use Rattle.cpu_state.specs.Exceptions.{in_slot, raised_system}
-use Rattle.cpu_state.specs.declared.control.Flow.{Flow}
-use Rattle.cpu_state.specs.declared.control.System.{System}
 use Rattle.step_laws.specs.Formed.{Only}
 use Rattle.step_laws.specs.Cop0.{Pushed, Caused, RaisedBits, RestoredBits, WrittenBits}
 use Rattle.step_laws.proofs.Masks.{cause_raised}

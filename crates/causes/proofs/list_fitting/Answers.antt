@@ -1,5 +1,4 @@
 -- Nothing is written where the rows do not fit, and else all of them.
-use borrow.Author.Rules.{rules}
 use Rattle.causes.proofs.Loop.{too_short, all_fit}
 use Rattle.causes.proofs.list_fitting.Goals as goal
 

@@ -1,7 +1,6 @@
 -- The rows of the bits that are left, added to what is listed, are all the rows.
-use native.Mathlib.Omega.{arith}
 use Rattle.gte_causes.specs.Causes.{parts_at}
-use Rattle.causes.proofs.Loop.{Going, going_first, going_next, going_last}
+use Rattle.causes.proofs.Loop.{Going}
 use Rattle.causes.proofs.list_rows.Given as goal
 
 abbrev pub invariant-loop-k : goal.invariant-loop-k

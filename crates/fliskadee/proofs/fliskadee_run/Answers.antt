@@ -1,5 +1,4 @@
 -- The run is the search with mask 0.
-use borrow.Author.Rules.{rules}
 use mathlib.Core.Path.{◌∙◌}
 use Rattle.fliskadee.proofs.Answers.{find_run}
 use Rattle.fliskadee.proofs.fliskadee_run.Goals as goal

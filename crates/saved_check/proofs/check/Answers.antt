@@ -2,7 +2,6 @@
 use Rattle.saved_format.specs.Tails.{Geometry}
 use Rattle.saved_format.proofs.Tails.{some_geometry}
 use Rattle.saved_check.proofs.Judging.{placed, past_judged, stop_judged, whole_judged}
-use borrow.Author.Rules.{rules}
 use Rattle.saved_check.proofs.check.Goals as goal
 
 pub geometry_at-requires : goal.geometry_at-requires

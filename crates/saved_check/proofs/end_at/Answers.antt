@@ -2,7 +2,6 @@
 use Rattle.saved_format.specs.Tails.{Nothing}
 use Rattle.saved_format.proofs.Tails.{some_nothing}
 use Rattle.saved_check.proofs.Judging.{placed, past_judged, stop_judged}
-use borrow.Author.Rules.{rules}
 use Rattle.saved_check.proofs.end_at.Goals as goal
 
 pub nothing_at-requires : goal.nothing_at-requires

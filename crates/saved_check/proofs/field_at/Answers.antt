@@ -1,5 +1,4 @@
 -- Each answer is one law of Fronts: how much of a header and its content stands at the place.
-use borrow.Author.Rules.{rules}
 use native.Mathlib.Omega.{arith}
 use Rattle.saved_check.proofs.Fronts.{stop_none, stop_tag, stop_one, stop_low, stop_two, stop_high, stop_short, past_field}
 use Rattle.saved_check.proofs.field_at.Goals as goal

@@ -2,7 +2,6 @@
 use Rattle.saved_format.specs.Tails.{Ram}
 use Rattle.saved_format.proofs.Tails.{some_ram}
 use Rattle.saved_check.proofs.Judging.{placed, past_judged, stop_judged}
-use borrow.Author.Rules.{rules}
 use Rattle.saved_check.proofs.geometry_at.Goals as goal
 
 pub ram_at-requires : goal.ram_at-requires

@@ -2,7 +2,6 @@
 use Rattle.saved_format.specs.Tails.{End}
 use Rattle.saved_format.proofs.Tails.{some_end}
 use Rattle.saved_check.proofs.Judging.{placed, past_judged, stop_judged}
-use borrow.Author.Rules.{rules}
 use Rattle.saved_check.proofs.pad_at.Goals as goal
 
 pub end_at-requires : goal.end_at-requires

@@ -1,12 +1,5 @@
 -- The loop keeps that the verdict on the file from `at` on is the verdict from `from` on.
-use Prim.Native.Nat.{◌-◌, ◌≤◌}
-use native.Mathlib.Omega.{arith}
-use borrow.Author.Rules.{rules}
 use mathlib.Core.Path.{sym, ◌∙◌}
-use lib.ListN.{length}
-use Rattle.saved_format.specs.Tails.{Ram}
-use Rattle.saved_check.specs.Check.{Judged}
-use Rattle.saved_check.specs.declared.Verdict.{Verdict}
 use Rattle.saved_check.proofs.Judging.{placed, ram_last, ram_more, ram_stop}
 use Rattle.saved_check.proofs.ram_at.Goals as goal
 

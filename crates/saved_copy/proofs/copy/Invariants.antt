@@ -1,8 +1,7 @@
 -- The loop keeps that what is left to store gives what was to be stored.
 use Prim.Native.Nat.{◌-◌}
-use native.Mathlib.Omega.{arith}
 use lib.ListN.{length}
-use Rattle.saved_copy.proofs.Copying.{Copying, copying_none, copying_more, copying_all}
+use Rattle.saved_copy.proofs.Copying.{Copying}
 use Rattle.saved_copy.proofs.copy.Given as goal
 
 abbrev pub invariant-loop-i : goal.invariant-loop-i

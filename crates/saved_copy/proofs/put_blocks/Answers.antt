@@ -1,10 +1,8 @@
 -- The loop keeps that the blocks that are left give all of them.
 use Prim.Native.Nat.{◌+◌, ◌-◌}
 use native.Mathlib.Omega.{arith}
-use mathlib.Core.Path.{refl, ap, ◌∙◌}
-use lib.ListN.{length, length-take, length-drop}
-use lib.Seq.{length-sets}
-use Rattle.saved_copy.proofs.Blocks.{Putting, putting_none, putting_more, putting_all}
+use mathlib.Core.Path.{refl}
+use Rattle.saved_copy.proofs.Blocks.{putting_more, putting_all}
 use Rattle.saved_copy.proofs.put_blocks.Goals as goal
 
 pub loop-done-preserved : goal.loop-done-preserved

@@ -1,10 +1,7 @@
 -- The loop keeps that the blocks that are left give all of them.
-use Prim.Native.Nat.{◌+◌, ◌-◌}
-use native.Mathlib.Omega.{arith}
-use mathlib.Core.Path.{refl, ap, ◌∙◌}
-use lib.ListN.{length, length-take, length-drop}
-use lib.Seq.{length-sets}
-use Rattle.saved_copy.proofs.Blocks.{Putting, putting_none, putting_more, putting_all}
+use Prim.Native.Nat.{◌-◌}
+use lib.ListN.{length}
+use Rattle.saved_copy.proofs.Blocks.{Putting}
 use Rattle.saved_copy.proofs.put_blocks.Given as goal
 
 abbrev pub invariant-loop-done : goal.invariant-loop-done

@@ -1,12 +1,7 @@
 -- The loop keeps that the blocks that are left give all of RAM.
-use Rattle.saved_copy.proofs.Copying.{part_fits}
-use lib.ListN.{drop}
-use Prim.Native.Nat.{◌+◌, ◌-◌}
-use native.Mathlib.Omega.{arith}
-use mathlib.Core.Path.{ap, ◌∙◌}
+use Prim.Native.Nat.{◌-◌}
 use lib.ListN.{length}
-use lib.Seq.{length-sets}
-use Rattle.saved_copy.proofs.Blocks.{Taking, taking_none, taking_more, taking_all}
+use Rattle.saved_copy.proofs.Blocks.{Taking}
 use Rattle.saved_copy.proofs.take_blocks.Given as goal
 
 abbrev pub invariant-loop-ram : goal.invariant-loop-ram
