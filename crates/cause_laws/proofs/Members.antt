@@ -17,7 +17,7 @@ all_++ none k = k
 all_++ (more p h) k = more p (all_++ h k)
 
 pub all_in : {A : Type 0} {P : A → Type 0} {xs : List A} {a : A} → All P xs → In a xs → P a
-all_in {A = A} {P = P} {a = a} none x3 = elim x3 [ ]
+all_in {A = A} {P = P} {a = a} none h = elim h [ ]
 all_in (more p h) here = p
 all_in (more p h) (later i) = all_in h i
 

@@ -127,12 +127,12 @@ tells (beyond z lo hi) f = value z f
 tells (division h sz) f = (refl, refl)
 
 in_whole : {c : Check} {cs : List Check} → AllWhole cs → In c cs → Whole c.test
-in_whole {c = c} AllWhole.none x3 = elim x3 [ ]
+in_whole {c = c} AllWhole.none h = elim h [ ]
 in_whole (more f h) here = f
 in_whole (more f h) (later i) = in_whole h i
 
 part_whole : {c : Check} {cs : List Check} {n p : ℕ} {parts : List (List Check)} → PartsWhole parts → PartFrom cs n p parts → In c cs → Whole c.test
-part_whole {c = c} {cs = cs} {n = n} {p = p} PartsWhole.none x5 i = elim x5 [ ]
+part_whole {c = c} {cs = cs} {n = n} {p = p} PartsWhole.none h i = elim h [ ]
 part_whole (more f h) first i = in_whole f i
 part_whole (more f h) (next q) i = part_whole h q i
 
