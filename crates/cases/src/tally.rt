@@ -1,8 +1,8 @@
 // What has been compared, and what is printed of it.
-use std::io;
+use std::{fmt, io};
 
 // What has been counted, and whether the case that runs has had no difference so far.
-#[derive(Clone, Copy)]
+#[derive(Drop)]
 pub(crate) struct Tally {
     pub cases: u64,
     pub values: u64,
@@ -10,61 +10,60 @@ pub(crate) struct Tally {
     pub clean: bool,
 }
 
-// One more, up to a million.
-pub(crate) fn more(n: u64) -> u64 {
-    if n < 1_000_000 { n + 1 } else { n }
-}
-
-// The end of a case's line.
-pub(crate) fn end_case(rt: &impl Print, t: Tally) -> io::Result<()> {
-    if t.cases == 0 {
-        return Ok(());
+impl Tally {
+    // Before the first case.
+    pub fn new() -> Tally {
+        Tally {
+            cases: 0,
+            values: 0,
+            differ: 0,
+            clean: true,
+        }
     }
-    if t.clean {
-        print!(rt; " ok")?;
-    }
-    println!(rt)
-}
 
-// A line about a difference: what was looked at, what was found, what was expected.
-pub(crate) fn print_difference(
-    rt: &impl Print,
-    what: u32,
-    found: u64,
-    expected: u64,
-) -> io::Result<()> {
-    print!(rt; "\n  {what:08x}: {found:016x}, expected {expected:016x}")
-}
-
-// One more value is compared.
-pub(crate) fn compare(
-    rt: &impl Print,
-    t: Tally,
-    what: u32,
-    found: u64,
-    expected: u64,
-) -> io::Result<Tally> {
-    if found == expected {
-        return Ok(Tally {
-            cases: t.cases,
-            values: more(t.values),
-            differ: t.differ,
-            clean: t.clean,
-        });
+    pub fn begin_case(&mut self) {
+        self.cases = self.cases.saturating_add(1);
+        self.clean = true;
     }
-    print_difference(rt, what, found, expected)?;
-    Ok(Tally {
-        cases: t.cases,
-        values: more(t.values),
-        differ: more(t.differ),
-        clean: false,
-    })
+
+    // The end of a case's line, where there is a case.
+    pub fn end_case(&self, rt: &impl Print) -> io::Result<()> {
+        if self.cases == 0 {
+            return Ok(());
+        }
+        if self.clean {
+            print!(rt; " ok")?;
+        }
+        println!(rt)
+    }
+
+    // One more value is compared. Of a difference a line says what was looked at, what was found, and what was expected.
+    pub fn compare(
+        &mut self,
+        rt: &impl Print,
+        what: u32,
+        found: u64,
+        expected: u64,
+    ) -> io::Result<()> {
+        self.values = self.values.saturating_add(1);
+        if found != expected {
+            self.differ = self.differ.saturating_add(1);
+            self.clean = false;
+            print!(rt; "\n  {what:08x}: {found:016x}, expected {expected:016x}")?;
+        }
+        Ok(())
+    }
 }
 
 // The last line: how many cases, how many values, how many differ.
-pub(crate) fn print_tally(rt: &impl Print, t: Tally) -> io::Result<()> {
-    println!(rt;
-        "{} cases, {} values compared, {} differ",
-        t.cases, t.values, t.differ
-    )
+impl fmt::Display for Tally {
+    fn fmt<W: fmt::Write>(&self, f: &mut fmt::Formatter<W>) -> fmt::Result {
+        let cases = self.cases;
+        let values = self.values;
+        let differ = self.differ;
+        write!(
+            f,
+            "{cases} cases, {values} values compared, {differ} differ"
+        )
+    }
 }

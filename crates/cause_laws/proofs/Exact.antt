@@ -4,6 +4,7 @@ use mathlib.Core.List.{List, [], ◌∷◌, ◌++◌}
 use mathlib.Core.Path.{◌≡◌, refl, sym, ap, ◌∙◌, subst}
 use Prim.Native.Nat.{ℕ, ◌≤◌}
 use native.Mathlib.Omega.{arith}
+use Rattle.std.specs.Prelude.{Result, Ok, Err}
 use borrow.Author.Tests.{ne_eqb, leb-true, leb-false, le-leb}
 use lib.Dec.{eqb, leb}
 use lib.ListN.{length, drop, length-append, length-drop}
@@ -11,8 +12,7 @@ use lib.Seq.{drop-append_seam}
 use Rattle.byte_order.proofs.Rows.{length_words_at}
 use Rattle.gte_rows.specs.Rows.{Row, words_of}
 use Rattle.gte.specs.Commands.{outcome_of, is_done}
-use Rattle.gte.specs.declared.Outcome.{Outcome}
-use Rattle.gte.specs.declared.Outcome.TheVariants.{Done, Unlisted}
+use Rattle.gte.specs.declared.Unlisted.{Unlisted}
 use Rattle.gte_causes.specs.Causes.{rows_at}
 use Rattle.answer.specs.declared.Answer.{Answer}
 use Rattle.image.specs.Image.{image_length, geometry_in}
@@ -47,12 +47,12 @@ module _ {m : List ℕ} {word : ℕ} {ws : List ℕ} {a : Answer} {ws' : List �
 
 -- ---- a call that is not refused
 record Listed (m : List ℕ) (word : ℕ) (ws : List ℕ) : Type 0 where
-  done : outcome_of word ≡ Done
+  done : outcome_of word ≡ Ok tt
   fits : length (cause_words m word) ≤ length ws
 
-done_by : (o : Outcome) → is_done o ≡ true → o ≡ Done
-done_by Done e = refl
-done_by Unlisted e = let z : ◌≡◌ {A = ℕ} 0 1 = ap (λ (b : Bool). cond b 1 0) e in absurd (omega arith)
+done_by : (o : Result (Unit {0}) Unlisted) → is_done o ≡ true → o ≡ Ok tt
+done_by (Ok x) e = refl
+done_by (Err u) e = cc
 
 listed : (m : List ℕ) (word : ℕ) (ws : List ℕ) → code_of m word ws ≡ 0 → Listed m word ws
 unfolding code_of

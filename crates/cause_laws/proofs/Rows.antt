@@ -4,6 +4,7 @@ use mathlib.Core.List.{List, [], ◌∷◌, ◌++◌}
 use mathlib.Core.Path.{◌≡◌, refl, sym, ap, ap₂, ◌∙◌, subst}
 use Prim.Native.Nat.{ℕ, zero, suc, ◌+◌, ◌<◌, ◌≤◌}
 use native.Mathlib.Omega.{arith}
+use Rattle.std.specs.Prelude.{Ok}
 use borrow.Author.Tests.{ne_eqb, eqb-true, eqb-false}
 use lib.Dec.{T, eqb}
 use lib.ListN.{length}
@@ -14,7 +15,6 @@ use Rattle.gte_arithmetic.proofs.Flags.{some_++}
 use Rattle.gte_registers.specs.Registers.{reg}
 use Rattle.gte_inputs.specs.Inputs.{inputs_of}
 use Rattle.gte.specs.Commands.{command_in, sf_of, lm_of, checks_of, joined, joined_from, outcome_of, command_of}
-use Rattle.gte.specs.declared.Outcome.TheVariants.{Done}
 use Rattle.gte_laws.specs.Exact.{checks_at}
 use Rattle.gte_laws.proofs.Exact.{demand_2}
 use Rattle.gte_rows.specs.Rows.{Row, row_of, caused, causes, part_rows, rows_down, fourth, fifth, Whole, AllWhole, PartsWhole, more}
@@ -116,7 +116,7 @@ masked : (b : ℕ) → 12 ≤ b → b ≤ 30 → bit_at b 0x7fff_f000 ≡ true
 masked b l u = true_of (bit_at b 0x7fff_f000) (at (λ k. bit_at k 0x7fff_f000) 12 19 tt b l (omega arith))
 
 -- bits 30..12 of FLAG, each by its own checks
-own : (word : ℕ) (w : List ℕ) → length w ≡ 64 → outcome_of word ≡ Done → (b : ℕ) → 12 ≤ b → b ≤ 30 → bit_at b (reg (command_of word w) 63) ≡ some b (checks_at word w)
+own : (word : ℕ) (w : List ℕ) → length w ≡ 64 → outcome_of word ≡ Ok tt → (b : ℕ) → 12 ≤ b → b ≤ 30 → bit_at b (reg (command_of word w) 63) ≡ some b (checks_at word w)
 own word w h e b l u = rw (ne_eqb 31 b (λ k. omega arith), masked b l u) at (demand_2 word w h e b)
 
 -- ---- the two words of a row are the whole value

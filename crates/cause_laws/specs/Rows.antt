@@ -1,5 +1,5 @@
 -- What makes a list of rows exact: the causes of a command word over 64 words, each once, in order, and FLAG's bits.
-use Rattle.std.specs.Prelude.{Bool, true, false, ◌||◌, List, [], ◌∷◌, ◌≡◌, ℕ, suc, ◌+◌, ◌*◌, ◌^◌, ◌<◌, ◌≤◌, eqb, length}
+use Rattle.std.specs.Prelude.{Bool, true, false, ◌||◌, List, [], ◌∷◌, ◌≡◌, ℕ, suc, ◌+◌, ◌*◌, ◌^◌, ◌<◌, ◌≤◌, eqb, length, Ok}
 use Rattle.std.specs.Int.{w64}
 use Rattle.std.proofs.Common.{to_z}
 use Rattle.words.specs.Words.{bit_at}
@@ -7,7 +7,6 @@ use Rattle.gte_arithmetic.specs.Checks.{Test, above, below, beyond, division, fa
 use Rattle.gte_registers.specs.Registers.{reg}
 use Rattle.gte_rows.specs.Rows.{Row, row_of, PartsWhole}
 use Rattle.gte.specs.Commands.{outcome_of, command_of}
-use Rattle.gte.specs.declared.Outcome.TheVariants.{Done}
 use Rattle.gte_causes.specs.Causes.{parts_at, rows_at}
 
 -- ---- lists
@@ -79,4 +78,4 @@ pub record RowsExact (word : ℕ) (w : List ℕ) (rows : List Row) : Type 0 wher
 
 -- of all 22 commands, over any 64 words
 abbrev pub RowsLaw : Type 0
-RowsLaw = (word : ℕ) (w : List ℕ) → length w ≡ 64 → outcome_of word ≡ Done → PartsWhole (parts_at word w) → RowsExact word w (rows_at word w)
+RowsLaw = (word : ℕ) (w : List ℕ) → length w ≡ 64 → outcome_of word ≡ Ok tt → PartsWhole (parts_at word w) → RowsExact word w (rows_at word w)

@@ -1,7 +1,7 @@
 -- The loop over the bits, and what the lent words then hold.
 use mathlib.Core.List.{List, [], ◌∷◌, ◌++◌}
 use mathlib.Core.Path.{◌≡◌, refl, sym, ap, ◌∙◌}
-use Prim.Native.Nat.{ℕ, zero, suc, ◌+◌, ◌*◌, ◌-◌, ◌<◌, ◌≤◌}
+use Prim.Native.Nat.{ℕ, suc, ◌+◌, ◌*◌, ◌-◌, ◌<◌, ◌≤◌}
 use native.Mathlib.Omega.{arith}
 use native.Mathlib.Nat.{zero-add}
 use borrow.Author.Tests.{le-leb, lt-leb}
@@ -9,50 +9,54 @@ use lib.ListN.{length, drop}
 use lib.Seq.{sets, sets-eq, length-sets}
 use Rattle.gte_arithmetic.specs.Checks.{Check}
 use Rattle.gte_rows.specs.Rows.{PartsWhole, Row, row_words, part_rows, rows_down, rows_of, words_of}
-use Rattle.gte_rows.specs.Listing.{Listing, listing, add_row, add_rows, Adds}
+use Rattle.gte_rows.specs.Listing.{Listing, listing, listed, add_row, add_rows, Adds}
+use Rattle.gte_rows.specs.declared.rows.Rows.{Rows}
 use Rattle.gte_rows.proofs.Listings.{rows_++}
-use Rattle.gte_causes.specs.Causes.{ListsBit}
+use Rattle.gte_causes.specs.Causes.{ListsParts}
 use Rattle.image.specs.Refusals.{first_of}
 use Rattle.causes.specs.Causes.{answered, number_of, words_after, fitting}
 
--- ---- the loop: k bits are left
-pub record Going (parts : List (List Check)) (out₀ out : List ℕ) (k n : ℕ) : Type 0 where
-  pub below : k ≤ 19
-  pub small : n + 585 * k ≤ 11115
-  pub long : length out ≡ length out₀
-  pub whole : k < 19 → PartsWhole parts
-  pub left : add_rows (rows_down k parts) (listing n out) ≡ add_rows (rows_down 19 parts) (listing 0 out₀)
+-- ---- the loop: the bits from 12 up to b are left
+pub record Going (parts : List (List Check)) (s t : Rows) (b : ℕ) : Type 0 where
+  pub low : 12 ≤ b
+  pub high : b ≤ 31
+  pub small : t.count + 585 * b ≤ s.count + 585 * 31
+  pub words : t.out.ghost_name ≡ s.out.ghost_name
+  pub whole : b < 31 → PartsWhole parts
+  pub left : add_rows (rows_down (b - 12) parts) (listed t) ≡ add_rows (rows_down 19 parts) (listed s)
 
-pub going_first : (parts : List (List Check)) (out : List ℕ) → Going parts out out 19 0
-going_first parts out = record { below = omega arith; small = omega arith; long = refl; whole = λ h. absurd (omega arith); left = refl }
-
-pub going_next : (parts : List (List Check)) (out₀ out out' : List ℕ) (k n n' : ℕ)
-    → 0 < k
-    → Going parts out₀ out k n
-    → ListsBit (12 + (k - 1)) parts (listing n out) (listing n' out')
-    → n' ≤ n + 585
-    → length out' ≡ length out
-    → Going parts out₀ out' (k - 1) n'
+down : (parts : List (List Check)) (k b c : ℕ) → k ≡ suc c → 12 + c ≡ b → rows_down k parts ≡ part_rows b 1 parts ++ rows_down c parts
 unfolding rows_down
-going_next parts out₀ out out' zero n n' h g w l e = absurd (omega arith)
-going_next parts out₀ out out' (suc k) n n' h g w l e =
-    let s = g.small in
-    let b = g.below in
-    rw (back k) (record {
-      below = omega arith;
-      small = omega arith;
-      long = e ∙ g.long;
-      whole = λ i. w.whole;
-      left = ap (add_rows (rows_down k parts)) (rw (back k) at w.rows.is) ∙ sym (rows_++ (part_rows (12 + k) 1 parts) (rows_down k parts) (listing n out)) ∙ g.left;
-    })
-  where
-    back : (k : ℕ) → suc k - 1 ≡ k
-    back k = omega arith
+down parts k b c e f = rw e (ap (λ (n : ℕ). part_rows n 1 parts ++ rows_down c parts) f)
 
-pub going_last : (parts : List (List Check)) (out₀ out : List ℕ) (k n : ℕ) → k ≤ 0 → Going parts out₀ out k n → Adds (rows_of parts) (listing 0 out₀) (listing n out) × PartsWhole parts
+-- t lists bit b - 1, and is u then
+pub going_next : {parts : List (List Check)} {s t u : Rows} {b : ℕ}
+    → 12 < b
+    → Going parts s t b
+    → ListsParts 585 parts (record t { wanted = record { bit = b - 1; part = t.wanted.part } }) u
+    → Going parts s u (b - 1)
+going_next {parts} {s} {t} {u} {b} h g w =
+    let k = b - 1 - 12 in
+    let small = g.small in
+    let high = g.high in
+    let count = w.count in
+    record {
+      low = omega arith;
+      high = omega arith;
+      small = omega arith;
+      words = w.words ∙ g.words;
+      whole = λ i. w.lists.whole;
+      left = ap (add_rows (rows_down k parts)) w.lists.rows.is
+          ∙ sym (rows_++ (part_rows (b - 1) 1 parts) (rows_down k parts) (listed t))
+          ∙ ap (λ (rs : List Row). add_rows rs (listed t)) (sym (down parts (b - 12) (b - 1) k (omega arith) (omega arith)))
+          ∙ g.left;
+    }
+
+pub going_last : {parts : List (List Check)} {s t : Rows} {b : ℕ} → b ≤ 12 → Going parts s t b → Adds (rows_of parts) (listed s) (listed t)
 unfolding rows_down add_rows
-going_last parts out₀ out zero n h g = (record { is = g.left }, g.whole (omega arith))
-going_last parts out₀ out (suc k) n h g = absurd (omega arith)
+going_last {parts} {s} {t} {b} h g =
+    let z : b - 12 ≡ 0 = omega arith in
+    record { is = rw z at g.left }
 
 -- ---- what rows leave: their number of words is counted, and where they fit they are stored in a row
 pub counts : (rows : List Row) (s : Listing) → (add_rows rows s).count ≡ s.count + length (words_of rows)

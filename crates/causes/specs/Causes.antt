@@ -1,9 +1,11 @@
 -- What a question for causes answers, and what the lent words then hold (02, Ticket 5).
-use Rattle.std.specs.Prelude.{cond, List, [], ◌∷◌, ◌++◌, ◌≡◌, ℕ, eqb, leb, length, drop}
+use Rattle.std.specs.Prelude.{cond, List, [], ◌∷◌, ◌++◌, ◌≡◌, ℕ, eqb, leb, length, drop, Result}
 use Rattle.gte_rows.specs.Rows.{words_of, PartsWhole}
 use Rattle.gte.specs.Commands.{outcome_of, is_done}
 use Rattle.gte_causes.specs.Causes.{parts_at, rows_at}
+use Rattle.answer.specs.Codes.{answer_of}
 use Rattle.answer.specs.declared.Answer.{Answer}
+use Rattle.answer.specs.declared.Refusal.{Refusal}
 use Rattle.image.specs.Image.{geometry_in}
 use Rattle.image.specs.Refusals.{Test, ◌else◌, first_of, image_tests}
 
@@ -13,6 +15,10 @@ pub record Answered : Type 0 where
 
 abbrev pub answered : ℕ → ℕ → List ℕ → Answered
 answered code number ws = record { answer = record { code = code; number = number }; words = ws }
+
+-- the same of an outcome
+abbrev pub answered_as : Result ℕ Refusal → List ℕ → Answered
+answered_as r ws = record { answer = answer_of r; words = ws }
 
 -- the words of the rows that the command has on the image's COP2 registers; SR and the rest of the machine are not asked
 abbrev pub cause_words : List ℕ → ℕ → List ℕ

@@ -1,4 +1,3 @@
-pub mod Operands
-pub mod Words
-pub mod Quotient
-pub mod Product
+mod Checked
+mod Quotient
+mod Product

@@ -1,5 +1,5 @@
 -- A product of words from the four products of their halves, and its two words.
-use Rattle.std.proofs.Common.{◌≡◌, ℕ, suc, ◌+◌, ◌*◌, ◌/◌, ◌%◌, ◌^◌, ◌<◌, ◌≤◌, Bool, true, false, ltb, ℤ, pos, ◌*ℤ◌, sym, refl, ap, ◌∙◌, mul_assoc, mul_comm, add-mul, mul-le-mul, div-add-mod', mul-add, mul_left_comm, arith, lit<, w32, w64, Fits, to_z, of_z, ltb-false, ltb-true}
+use Rattle.std.proofs.Common.{◌≡◌, ℕ, suc, ◌+◌, ◌-◌, ◌*◌, ◌/◌, ◌%◌, ◌^◌, ◌<◌, ◌≤◌, Bool, true, false, ltb, ℤ, pos, ◌*ℤ◌, sym, refl, ap, ◌∙◌, mul_assoc, mul_comm, add-mul, mul-le-mul, div-add-mod', mul-add, mul_left_comm, arith, lit<, w32, w64, Fits, to_z, of_z, ltb-false, ltb-true}
 use lib.Signed.{shr_z}
 use mir.Facts.{to_z_pos, of_z-to_z, sfits_to_z}
 use Rattle.integers.specs.Parts.{pos_part, neg_part, parts_sub, zarith}
@@ -24,21 +24,6 @@ parts a₁ a₀ b₁ b₀ = simp (mul-add, add-mul, mul_assoc, mul_comm, mul_lef
 from_halves : (a b : ℕ) → a * b ≡ a / 65536 * (b / 65536) * 2 ^ 32 + (a % 65536 * (b / 65536) + a / 65536 * (b % 65536)) * 65536 + a % 65536 * (b % 65536)
 from_halves a b = rw (div-add-mod' a 65536, div-add-mod' b 65536) at (parts (a / 65536) (a % 65536) (b / 65536) (b % 65536))
 
--- HI's sum fits a word
-pub high_fits : (a b m o high c d : ℕ) → a < 2 ^ 32 → b < 2 ^ 32 → m ≡ a % 65536 * (b / 65536) → o ≡ a / 65536 * (b % 65536) → high ≡ a / 65536 * (b / 65536)
-    → c ≤ 1 → d ≤ 1 → high + m / 65536 + o / 65536 + c + d < 2 ^ 32
-high_fits a b m o high c d fa fb em eo eh ec ed =
-    let km : a % 65536 * (b / 65536) ≤ 65535 * 65535 = below 65535 (omega arith) (omega arith) in
-    let ko : a / 65536 * (b % 65536) ≤ 65535 * 65535 = below 65535 (omega arith) (omega arith) in
-    let kh : a / 65536 * (b / 65536) ≤ 65535 * 65535 = below 65535 (omega arith) (omega arith) in
-    sized high m o c d (omega arith) (omega arith) (omega arith) ec ed
-  where
-    sized : (h m o c d : ℕ) → h ≤ 65535 * 65535 → m ≤ 65535 * 65535 → o ≤ 65535 * 65535 → c ≤ 1 → d ≤ 1 → h + m / 65536 + o / 65536 + c + d < 2 ^ 32
-    sized h m o c d eh em eo ec ed = omega arith
-
-pub carry_fits : {x y r : ℕ} → x < 2 ^ 32 → y < 2 ^ 32 → r ≡ (x + y) / 2 ^ 32 → r ≤ 1
-carry_fits f g e = omega arith
-
 -- the carries: what the four products come to is what the two words hold
 carried : (low m o high part c d lo : ℕ) → part ≡ (low + m * 65536 % 2 ^ 32) % 2 ^ 32 → c ≡ (low + m * 65536 % 2 ^ 32) / 2 ^ 32
     → d ≡ (part + o * 65536 % 2 ^ 32) / 2 ^ 32 → lo ≡ (part + o * 65536 % 2 ^ 32) % 2 ^ 32
@@ -52,13 +37,13 @@ two_words n hi lo h e =
     rw (f, g)
 
 -- the words of MULTU from the products of halves and their carries
-pub unsigned_words : (a b low m o high part c d lo : ℕ) → low ≡ a % 65536 * (b % 65536) → m ≡ a % 65536 * (b / 65536) → o ≡ a / 65536 * (b % 65536) → high ≡ a / 65536 * (b / 65536)
-    → part ≡ (low + m * 65536 % 2 ^ 32) % 2 ^ 32 → c ≡ (low + m * 65536 % 2 ^ 32) / 2 ^ 32 → d ≡ (part + o * 65536 % 2 ^ 32) / 2 ^ 32
-    → lo ≡ (part + o * 65536 % 2 ^ 32) % 2 ^ 32 → record { hi = high + m / 65536 + o / 65536 + c + d; lo = lo } ≡ unsigned_product_of a b
+pub unsigned_words : (a b low m o high c d : ℕ) → low ≡ a % 65536 * (b % 65536) → m ≡ a % 65536 * (b / 65536) → o ≡ a / 65536 * (b % 65536) → high ≡ a / 65536 * (b / 65536)
+    → c ≡ (low + m * 65536 % 2 ^ 32) / 2 ^ 32 → d ≡ ((low + m * 65536 % 2 ^ 32) % 2 ^ 32 + o * 65536 % 2 ^ 32) / 2 ^ 32
+    → record { hi = high + m / 65536 + o / 65536 + c + d; lo = ((low + m * 65536 % 2 ^ 32) % 2 ^ 32 + o * 65536 % 2 ^ 32) % 2 ^ 32 } ≡ unsigned_product_of a b
 unfolding unsigned_product_of
-unsigned_words a b low m o high part c d lo el em eo eh ep ec ed ew =
-    two_words (a * b) _ lo (omega arith)
-    (from_halves a b ∙ rw (← el, ← em, ← eo, ← eh) (carried low m o high part c d lo ep ec ed ew))
+unsigned_words a b low m o high c d el em eo eh ec ed =
+    two_words (a * b) _ _ (omega arith)
+    (from_halves a b ∙ rw (← el, ← em, ← eo, ← eh) (carried low m o high _ c d _ refl ec ed refl))
 
 -- ---- integers
 
@@ -88,16 +73,21 @@ turned : (a b s t : ℕ) → (a * (t * 2 ^ 32) ≡ t * a * 2 ^ 32) × (s * 2 ^ 3
 turned a b s t =
     (simp (mul_assoc, mul_comm), simp (mul_assoc, mul_comm, mul_left_comm), simp (mul_assoc, mul_left_comm) (omega arith))
 
--- the words of MULT from MULTU's: HI less the other factor for each negative one, `part` once and `hi` twice
-pub signed_words : (a b : ℕ) (u : HiLo) (x y part hi : ℕ) → a < 2 ^ 32 → b < 2 ^ 32 → u ≡ unsigned_product_of a b → x ≡ a / 2 ^ 31 * b → y ≡ b / 2 ^ 31 * a
-    → (part + x) % 2 ^ 32 ≡ u.hi → (hi + y) % 2 ^ 32 ≡ part → hi < 2 ^ 32 → record { hi = hi; lo = u.lo } ≡ product_of a b
+-- the words of MULT from MULTU's: HI less the other factor for each negative one
+pub signed_words : (a b : ℕ) (u : HiLo) (x y : ℕ) → a < 2 ^ 32 → b < 2 ^ 32 → x < 2 ^ 32 → y < 2 ^ 32 → u ≡ unsigned_product_of a b → x ≡ a / 2 ^ 31 * b → y ≡ b / 2 ^ 31 * a
+    → record { hi = ((u.hi + (2 ^ 32 - x)) % 2 ^ 32 + (2 ^ 32 - y)) % 2 ^ 32; lo = u.lo } ≡ product_of a b
 unfolding product_of unsigned_product_of
-signed_words a b u x y part hi fa fb e ex ey ep eh f =
+signed_words a b u x y fa fb fx fy e ex ey =
     let s = a / 2 ^ 31 in
     let t = b / 2 ^ 31 in
     let k = turned a b s t in
+    let part = (u.hi + (2 ^ 32 - x)) % 2 ^ 32 in
+    let hi = (part + (2 ^ 32 - y)) % 2 ^ 32 in
+    let high : u.hi < 2 ^ 32 = omega (arith, below 0xffff_ffff fa fb, ap (λ (r : HiLo). r.hi) e) in
+    let ep : (part + x) % 2 ^ 32 ≡ u.hi = omega arith in
+    let eh : (hi + y) % 2 ^ 32 ≡ part = omega arith in
     rw (signed a fa, signed b fb, ⊖_mul)
-    (words_are (a * b + s * 2 ^ 32 * (t * 2 ^ 32)) (a * (t * 2 ^ 32) + s * 2 ^ 32 * b) ((part + x) / 2 ^ 32 + (hi + y) / 2 ^ 32) (s * t) hi u.lo f
+    (words_are (a * b + s * 2 ^ 32 * (t * 2 ^ 32)) (a * (t * 2 ^ 32) + s * 2 ^ 32 * b) ((part + x) / 2 ^ 32 + (hi + y) / 2 ^ 32) (s * t) hi u.lo (omega arith)
     (omega (arith, ap (λ (r : HiLo). r.lo) e)) (omega (arith, ap (λ (r : HiLo). r.hi) e, ap (λ (r : HiLo). r.lo) e)))
 
 -- ---- the exact product

@@ -1,20 +1,18 @@
 -- Signed arithmetic on words (01 "One step"). a and b are words; `to_z w32` is the signed value of one.
-use Rattle.std.specs.Prelude.{ℕ, ◌-◌, ◌^◌, cond, ℤ, pos, negsuc, ◌+ℤ◌, ◌-ℤ◌, int_lt}
+use Rattle.std.specs.Prelude.{ℕ, ◌-◌, ◌^◌, cond, Option, None, Some, ℤ, pos, negsuc, ◌+ℤ◌, ◌-ℤ◌, int_lt}
 use Rattle.std.specs.Int.{w32}
 use Rattle.std.proofs.Common.{to_z}
 use Rattle.integers.specs.Floor.{mod_z}
 use Rattle.integers.specs.Clamp.{outside}
-use Rattle.cpu_alu.specs.declared.sums.Sum.{Sum}
-use Rattle.cpu_alu.specs.declared.sums.Sum.TheVariants.{Value, Overflow}
 
 -- ADD, ADDI and SUB trap where the exact signed result does not fit 32 bits
-abbrev pub or_overflow : ℤ → Sum
-or_overflow z = cond (outside (negsuc 0x7fff_ffff) (pos 0x7fff_ffff) z) Overflow (Value (mod_z z (2 ^ 32)))
+abbrev pub or_overflow : ℤ → Option ℕ
+or_overflow z = cond (outside (negsuc 0x7fff_ffff) (pos 0x7fff_ffff) z) None (Some (mod_z z (2 ^ 32)))
 
-unfoldable pub sum_of : ℕ → ℕ → Sum
+unfoldable pub sum_of : ℕ → ℕ → Option ℕ
 sum_of a b = or_overflow (to_z w32 a +ℤ to_z w32 b)
 
-unfoldable pub difference_of : ℕ → ℕ → Sum
+unfoldable pub difference_of : ℕ → ℕ → Option ℕ
 difference_of a b = or_overflow (to_z w32 a -ℤ to_z w32 b)
 
 -- SLT and SLTI

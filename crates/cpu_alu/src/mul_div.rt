@@ -3,7 +3,6 @@ ghost use Rattle.std.specs.Prelude.{◌≡◌, ◌+◌, ◌*◌, ◌/◌, ◌^�
 ghost use Rattle.integers.specs.Floor.{mod_z};
 ghost use Rattle.cpu_alu.specs.MulDiv.{product_of, unsigned_product_of, quotient_of, unsigned_quotient_of};
 
-use std::num::{wrapping_add_u32, wrapping_sub_u32};
 use words::shifts::low_word;
 use words::signed::to_signed;
 
@@ -26,11 +25,12 @@ fn times(x: u32, y: u32) -> u32
 fn carry(x: u32, y: u32) -> u32
     ensures { result ≡ (x + y) / 2 ^ 32 }
 {
-    if wrapping_add_u32(x, y) < x { 1 } else { 0 }
+    u32::from(x.wrapping_add(y) < x)
 }
 
 // The unsigned product from 16-bit halves. The carries are taken one by one: a compiler makes one wide product of a sum of the middle
 // products.
+#[tactic(auto, using(crate::proofs::Product::unsigned_words))]
 fn multiply_unsigned(a: u32, b: u32) -> HiLo
     ensures { result ≡ unsigned_product_of a b }
 {
@@ -42,14 +42,14 @@ fn multiply_unsigned(a: u32, b: u32) -> HiLo
     let middle = times(a0, b1);
     let other = times(a1, b0);
     let high = times(a1, b1);
-    let part = wrapping_add_u32(low, middle << 16);
+    let part = low.wrapping_add(middle << 16);
     HiLo {
         hi: high
             + (middle >> 16)
             + (other >> 16)
             + carry(low, middle << 16)
             + carry(part, other << 16),
-        lo: wrapping_add_u32(part, other << 16),
+        lo: part.wrapping_add(other << 16),
     }
 }
 
@@ -62,15 +62,16 @@ fn where_negative(word: u32, x: u32) -> u32
 
 // MULT (signed) and MULTU: the product of 64 bits. In the unsigned one a negative factor counts 2^32 too much, times the other factor:
 // LO is the same, and HI less the other factor. One function for both, so that the code stands once in the step.
+#[tactic(auto, using(crate::proofs::Product::signed_words))]
 pub fn multiply(signed: bool, a: u32, b: u32) -> HiLo
     ensures { result ≡ (if signed then product_of a b else unsigned_product_of a b) }
 {
     let p = multiply_unsigned(a, b);
     if signed {
-        let part = wrapping_sub_u32(p.hi, where_negative(a, b));
+        let part = p.hi.wrapping_sub(where_negative(a, b));
         return HiLo {
-            hi: wrapping_sub_u32(part, where_negative(b, a)),
-            lo: p.lo,
+            hi: part.wrapping_sub(where_negative(b, a)),
+            ..p
         };
     }
     p
@@ -90,6 +91,7 @@ fn divide_nonzero(x: i32, y: i32) -> HiLo
 }
 
 // DIV: remainder and quotient toward zero, with 01's answers for a divisor of 0.
+#[tactic(auto, using(std::proofs::lemmas::Bool::Decides::nat_tests, integers::specs::Bound::back), unfolding(crate::specs::MulDiv::quotient_of))]
 pub fn divide(a: u32, b: u32) -> HiLo
     ensures { result ≡ quotient_of a b }
 {
@@ -106,6 +108,7 @@ pub fn divide(a: u32, b: u32) -> HiLo
 }
 
 // DIVU: the same of unsigned words.
+#[tactic(auto, using(std::proofs::lemmas::Bool::Decides::nat_tests), unfolding(crate::specs::MulDiv::unsigned_quotient_of))]
 pub fn divide_unsigned(a: u32, b: u32) -> HiLo
     ensures { result ≡ unsigned_quotient_of a b }
 {

@@ -1,49 +1,31 @@
-// Signed and wide arithmetic of the processor: overflow traps, comparison, multiplication and division.
+// Signed arithmetic of the processor: sums that may not fit, and comparison.
 ghost use Rattle.std.specs.Prelude.{◌≡◌};
-ghost use Rattle.cpu_alu.specs.Alu.{or_overflow, sum_of, difference_of, less_of};
+ghost use Rattle.cpu_alu.specs.Alu.{sum_of, difference_of, less_of};
 
-use words::shifts::low_word;
-use words::signed::to_signed;
+use words::signed::{to_bits, to_signed};
 
-// A sum or difference, or that it does not fit 32 signed bits: then the instruction traps.
-#[derive(Clone, Copy)]
-pub enum Sum {
-    Value(u32),
-    Overflow,
-}
-
-// A signed result in 64 bits, as a word if it fits one.
-fn fitting(x: i64) -> Sum
-    ensures { result ≡ or_overflow x }
-{
-    if x < -0x8000_0000 {
-        Sum::Overflow
-    } else if 0x7fff_ffff < x {
-        Sum::Overflow
-    } else {
-        Sum::Value(low_word(x))
-    }
-}
-
-// ADD and ADDI, which trap where the sum does not fit.
-pub fn add_signed(a: u32, b: u32) -> Sum
+// ADD and ADDI: no sum where it does not fit 32 signed bits, and then the instruction traps.
+#[tactic(auto, using(crate::proofs::Checked::checked_words), unfolding(crate::specs::Alu::sum_of))]
+pub fn add_signed(a: u32, b: u32) -> Option<u32>
     ensures { result ≡ sum_of a b }
 {
-    fitting((to_signed(a) as i64) + (to_signed(b) as i64))
+    let sum = to_signed(a).checked_add(to_signed(b))?;
+    Some(to_bits(sum))
 }
 
-// SUB, which traps where the difference does not fit.
-pub fn sub_signed(a: u32, b: u32) -> Sum
+// SUB: the same of a difference.
+#[tactic(auto, using(crate::proofs::Checked::checked_words), unfolding(crate::specs::Alu::difference_of))]
+pub fn sub_signed(a: u32, b: u32) -> Option<u32>
     ensures { result ≡ difference_of a b }
 {
-    fitting((to_signed(a) as i64) - (to_signed(b) as i64))
+    let difference = to_signed(a).checked_sub(to_signed(b))?;
+    Some(to_bits(difference))
 }
 
 // SLT and SLTI: 1 where the first is less, as signed numbers.
+#[tactic(auto, using(integers::specs::Bound::back), unfolding(crate::specs::Alu::less_of))]
 pub fn less_signed(a: u32, b: u32) -> u32
     ensures { result ≡ less_of a b }
 {
-    let x = to_signed(a);
-    let y = to_signed(b);
-    if x < y { 1 } else { 0 }
+    u32::from(to_signed(a) < to_signed(b))
 }

@@ -1,5 +1,5 @@
 -- The fields of an instruction word.
-use Rattle.std.specs.Prelude.{ℕ, ◌-◌, ◌*◌, ◌/◌, ◌%◌, ◌^◌, ◌<◌}
+use Rattle.std.specs.Prelude.{ℕ, ◌*◌, ◌/◌, ◌%◌, ◌^◌, ◌<◌}
 use Rattle.std.specs.Int.{w16}
 use Rattle.words.specs.Words.{sign_extend}
 use Rattle.cpu_decode.specs.declared.fields.Fields.{Fields}

@@ -19,6 +19,7 @@ pub struct Fields {
 }
 
 // The fields of a word that instructions use.
+#[tactic(auto, unfolding(crate::specs::Fields::fields_of))]
 pub fn fields_of(word: u32) -> Fields
     ensures is { result ≡ fields_of word }
     ensures widths { FieldsOk result }
@@ -29,9 +30,9 @@ pub fn fields_of(word: u32) -> Fields
         rd: (word / 0x800 % 32) as usize,
         shift: word / 64 % 32,
         immediate: word % 0x1_0000,
-        extended: extended,
+        extended,
         offset: extended << 2,
         target: word % 0x400_0000 * 4,
-        word: word,
+        word,
     }
 }

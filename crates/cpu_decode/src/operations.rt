@@ -5,7 +5,7 @@ ghost use Rattle.tables.specs.Table.{lookup};
 ghost use Rattle.cpu_decode.specs.declared.operations.Op.TheVariants.{Reserved};
 
 // The 68 instructions, and Reserved for every other word.
-#[derive(Clone, Copy)]
+#[derive(Clone, Copy, Debug, PartialEq, Eq)]
 pub enum Op {
     Reserved,
     Sll,
@@ -78,6 +78,7 @@ pub enum Op {
     Swc2,
 }
 
+#[tactic(auto, unfolding(crate::specs::Decode::specials))]
 fn special(funct: u32) -> Op
     ensures { result ≡ lookup specials Reserved funct }
 {
@@ -114,6 +115,7 @@ fn special(funct: u32) -> Op
     }
 }
 
+#[tactic(auto, unfolding(crate::specs::Decode::conditions))]
 fn condition(rt: u32) -> Op
     ensures { result ≡ lookup conditions Reserved rt }
 {
@@ -126,6 +128,7 @@ fn condition(rt: u32) -> Op
     }
 }
 
+#[tactic(auto, unfolding(crate::specs::Decode::moves0))]
 fn move_0(rs: u32) -> Op
     ensures { result ≡ lookup moves0 Reserved rs }
 {
@@ -136,6 +139,7 @@ fn move_0(rs: u32) -> Op
     }
 }
 
+#[tactic(auto, unfolding(crate::specs::Decode::moves2))]
 fn move_2(rs: u32) -> Op
     ensures { result ≡ lookup moves2 Reserved rs }
 {
@@ -148,6 +152,7 @@ fn move_2(rs: u32) -> Op
     }
 }
 
+#[tactic(auto, unfolding(crate::specs::Decode::system_of))]
 fn system(word: u32) -> Op
     ensures { result ≡ system_of word }
 {
@@ -162,6 +167,7 @@ fn system(word: u32) -> Op
     }
 }
 
+#[tactic(auto, unfolding(crate::specs::Decode::geometry_of))]
 fn geometry(word: u32) -> Op
     ensures { result ≡ geometry_of word }
 {
@@ -173,6 +179,7 @@ fn geometry(word: u32) -> Op
 }
 
 // The operation of a word. Whether its coprocessor may be used is asked before, by its owner.
+#[tactic(auto, unfolding(crate::specs::Decode::decode_of, crate::specs::Decode::primaries))]
 pub fn decode(word: u32) -> Op
     ensures { result ≡ decode_of word }
 {

@@ -3,7 +3,7 @@ ghost use Rattle.std.specs.Prelude.{◌≡◌};
 ghost use Rattle.cpu_decode.specs.Owners.{owner_of, number_of};
 
 // Whose instruction it is.
-#[derive(Clone, Copy)]
+#[derive(Clone, Copy, Debug, PartialEq, Eq)]
 pub enum Owner {
     Processor,
     Coprocessor0,
@@ -13,6 +13,7 @@ pub enum Owner {
 }
 
 // Whose instruction it is, reserved or not.
+#[tactic(auto, unfolding(crate::specs::Owners::owners, crate::specs::Owners::owner_of))]
 pub fn owner_of(word: u32) -> Owner
     ensures { result ≡ owner_of word }
 {
@@ -22,15 +23,9 @@ pub fn owner_of(word: u32) -> Owner
     }
     match word / 0x400_0000 {
         0x10 => Owner::Coprocessor0,
-        0x11 => Owner::Coprocessor1,
-        0x12 => Owner::Coprocessor2,
-        0x13 => Owner::Coprocessor3,
-        0x31 => Owner::Coprocessor1,
-        0x32 => Owner::Coprocessor2,
-        0x33 => Owner::Coprocessor3,
-        0x39 => Owner::Coprocessor1,
-        0x3a => Owner::Coprocessor2,
-        0x3b => Owner::Coprocessor3,
+        0x11 | 0x31 | 0x39 => Owner::Coprocessor1,
+        0x12 | 0x32 | 0x3a => Owner::Coprocessor2,
+        0x13 | 0x33 | 0x3b => Owner::Coprocessor3,
         _ => Owner::Processor,
     }
 }
@@ -40,8 +35,7 @@ pub fn number(o: Owner) -> u32
     ensures { result ≡ number_of o }
 {
     match o {
-        Owner::Processor => 0,
-        Owner::Coprocessor0 => 0,
+        Owner::Processor | Owner::Coprocessor0 => 0,
         Owner::Coprocessor1 => 1,
         Owner::Coprocessor2 => 2,
         Owner::Coprocessor3 => 3,

@@ -24,14 +24,14 @@ pub(crate) fn land(p: Pending, r: &mut [u32; 32])
 }
 
 // The same, unless the instruction loads register n: then the waiting value is dropped.
+#[tactic(auto, using(std::proofs::lemmas::Bool::Decides::nat_tests), unfolding(crate::specs::Delay::landed_unless))]
 pub(crate) fn land_unless(p: Pending, r: &mut [u32; 32], n: usize)
     ensures { r.new ≡ landed_unless p r.old n }
 {
     let k = (p.register % 32) as usize;
-    if k == n % 32 {
-        return;
+    if k != n % 32 {
+        r[k] = p.value;
     }
-    r[k] = p.value;
 }
 
 // A result into register n, whatever landed there before; register 0 stays 0.
@@ -43,6 +43,7 @@ pub(crate) fn write_register(r: &mut [u32; 32], n: usize, v: u32)
 }
 
 // What is left waiting after a load into register n: for register 0, nothing.
+#[tactic(auto, using(std::proofs::lemmas::Bool::Decides::nat_tests), unfolding(crate::specs::Delay::pending_of))]
 pub(crate) fn to_wait(n: usize, v: u32) -> Pending
     ensures { result ≡ pending_of n v }
 {
@@ -57,6 +58,7 @@ pub(crate) fn to_wait(n: usize, v: u32) -> Pending
 }
 
 // What LWL and LWR merge with: the value that waits for register n, else the register.
+#[tactic(auto, using(std::proofs::lemmas::Bool::Decides::nat_tests), unfolding(crate::specs::Delay::current_of))]
 pub fn current(p: Pending, r: &[u32; 32], n: usize) -> u32
     ensures { result ≡ current_of p r.now n }
 {

@@ -1,9 +1,10 @@
 // PC and next PC.
 ghost use Rattle.std.specs.Prelude.{◌≡◌};
+ghost use Rattle.cpu_state.specs.System.{none};
 ghost use Rattle.cpu_effects.specs.Flow.{onward, jumped, with};
 
-use cpu_state::control::{Control, Flow, Pending};
-use std::num::wrapping_add_u32;
+use crate::delay::nothing;
+use cpu_state::control::{Control, Flow};
 
 // After every step but a jump, a branch or an exception.
 pub fn next(f: Flow) -> Flow
@@ -11,7 +12,7 @@ pub fn next(f: Flow) -> Flow
 {
     Flow {
         pc: f.next,
-        next: wrapping_add_u32(f.next, 4),
+        next: f.next.wrapping_add(4),
         slot: 0,
     }
 }
@@ -27,16 +28,24 @@ pub fn jump(f: Flow, target: u32) -> Flow
     }
 }
 
-// A control state that goes on, with Cop0, HI and LO as they were.
-pub fn with_flow(c: Control, f: Flow, p: Pending) -> Control
-    ensures { result ≡ with f p c }
+// A control state that goes on, with nothing left waiting, and Cop0, HI and LO as they were.
+pub fn go_on(c: Control) -> Control
+    ensures { result ≡ with (onward c.flow) none c }
 {
-    let s = c.system;
-    let h = c.product;
     Control {
-        flow: f,
-        pending: p,
-        system: s,
-        product: h,
+        flow: next(c.flow),
+        pending: nothing(),
+        ..c
+    }
+}
+
+// The same at a jump.
+pub fn go_to(c: Control, target: u32) -> Control
+    ensures { result ≡ with (jumped c.flow target) none c }
+{
+    Control {
+        flow: jump(c.flow, target),
+        pending: nothing(),
+        ..c
     }
 }

@@ -9,6 +9,7 @@ use cpu_state::control::Control;
 use cpu_state::exceptions::{raise, with_bad_address};
 
 // An exception that leaves BADV alone: the waiting load lands, then the control state goes to the vector.
+#[tactic(auto, unfolding(crate::specs::Traps::trap_step))]
 pub fn trap(c: Control, r: &mut [u32; 32], code: u32, unit: u32) -> Control
     ensures { (g : List ℕ) (m : Memory) → state result r.new g m ≡ trap_step code unit (state c r.old g m) }
 {
@@ -17,6 +18,7 @@ pub fn trap(c: Control, r: &mut [u32; 32], code: u32, unit: u32) -> Control
 }
 
 // An address error (AdEL, AdES), which BADV names.
+#[tactic(auto, unfolding(crate::specs::Traps::fault_step))]
 pub fn fault(c: Control, r: &mut [u32; 32], code: u32, a: u32) -> Control
     ensures { (g : List ℕ) (m : Memory) → state result r.new g m ≡ fault_step code a (state c r.old g m) }
 {

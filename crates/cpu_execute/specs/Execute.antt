@@ -1,13 +1,11 @@
 -- What each instruction does, from its fields, its operands and the state before it (01 "One step").
-use Rattle.std.specs.Prelude.{ℕ, ◌+◌, ◌-◌, ◌*◌, ◌/◌, ◌%◌, ◌^◌, Bool, cond, not, pos, ◌==◌, bit_and, bit_or, bit_xor, int_lt, nat_lt}
+use Rattle.std.specs.Prelude.{ℕ, ◌+◌, ◌-◌, ◌*◌, ◌/◌, ◌%◌, ◌^◌, Bool, cond, not, Option, None, Some, pos, ◌==◌, bit_and, bit_or, bit_xor, int_lt, nat_lt}
 use Rattle.std.specs.Int.{w32}
 use Rattle.std.proofs.Common.{to_z}
 use Rattle.words.specs.Shifts.{sra_of}
 use Rattle.cpu_alu.specs.Alu.{sum_of, difference_of, less_of}
 use Rattle.cpu_alu.specs.MulDiv.{product_of, unsigned_product_of, quotient_of, unsigned_quotient_of}
 use Rattle.cpu_alu.specs.declared.mul_div.HiLo.{HiLo}
-use Rattle.cpu_alu.specs.declared.sums.Sum.{Sum}
-use Rattle.cpu_alu.specs.declared.sums.Sum.TheVariants.{Value, Overflow}
 use Rattle.memory.specs.declared.addresses.Virt.{Virt}
 use Rattle.memory.specs.declared.loads.LoadKind.TheVariants as L
 use Rattle.memory.specs.declared.stores.StoreKind.TheVariants as S
@@ -23,9 +21,9 @@ abbrev pub at : ℕ → Fields → Virt
 at a f = record { 0 = add a f.extended }
 
 -- the signed result, or a trap that writes nothing
-abbrev pub or_trap : ℕ → Sum → Effect
-or_trap r (Value v) = Write r v
-or_trap r Overflow = Trap 12
+abbrev pub or_trap : ℕ → Option ℕ → Effect
+or_trap r (Some v) = Write r v
+or_trap r None = Trap 12
 
 -- ---- branches and jumps start from next PC
 abbrev pub negative_of : ℕ → Bool

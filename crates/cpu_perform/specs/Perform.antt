@@ -1,5 +1,5 @@
 -- What each effect does to the machine (01 "One step").
-use Rattle.std.specs.Prelude.{Bool, false, List, ℕ, ◌%◌, length}
+use Rattle.std.specs.Prelude.{Bool, false, Result, Ok, Err, List, ℕ, ◌%◌, length}
 use Rattle.memory.specs.Addresses.{place_of}
 use Rattle.memory.specs.Loads.{load_align, load_of}
 use Rattle.memory.specs.Stores.{store_align, store_of, memory_after}
@@ -7,10 +7,8 @@ use Rattle.memory.specs.declared.loads.LoadKind.{LoadKind}
 use Rattle.memory.specs.declared.loads.LoadKind.TheVariants as K
 use Rattle.memory.specs.declared.stores.StoreKind.{StoreKind}
 use Rattle.memory.specs.declared.stores.StoreKind.TheVariants as W
-use Rattle.memory.specs.declared.loads.Loaded.{Loaded}
-use Rattle.memory.specs.declared.loads.Loaded.TheVariants as L
-use Rattle.memory.specs.declared.stores.Stored.{Stored}
-use Rattle.memory.specs.declared.stores.Stored.TheVariants as S
+use Rattle.memory.specs.declared.addresses.Fault.{Fault}
+use Rattle.memory.specs.declared.addresses.Fault.TheVariants.{Bus, Address}
 use Rattle.cpu_execute.specs.declared.Effect.{Effect}
 use Rattle.cpu_execute.specs.declared.Effect.TheVariants as E
 use Rattle.gte_registers.specs.Registers.{reg, write_of}
@@ -25,13 +23,13 @@ use Rattle.cpu_effects.specs.Traps.{trap_step, fault_step}
 abbrev pub geometry_step : List ℕ → State → State
 geometry_step g s = next_step (state s.control s.registers g s.memory)
 
-abbrev pub loaded : LoadKind → ℕ → ℕ → State → Loaded
+abbrev pub loaded : LoadKind → ℕ → ℕ → State → Result ℕ Fault
 loaded k old a s = load_of k s.memory old (place_of a (load_align k) (user_of s.control.system) (length s.memory.ram))
 
-abbrev pub after_load : (ℕ → State) → ℕ → State → Loaded → State
-after_load f a s (L.Value x) = f x
-after_load f a s L.Bus = trap_step 7 0 s
-after_load f a s L.Address = fault_step 4 a s
+abbrev pub after_load : (ℕ → State) → ℕ → State → Result ℕ Fault → State
+after_load f a s (Ok x) = f x
+after_load f a s (Err Bus) = trap_step 7 0 s
+after_load f a s (Err Address) = fault_step 4 a s
 
 unfoldable pub load_step : LoadKind → ℕ → ℕ → State → State
 load_step k n a s = after_load (λ x. wait_step n x s) a s (loaded k (current_of s.control.pending s.registers n) a s)
@@ -40,10 +38,10 @@ load_step k n a s = after_load (λ x. wait_step n x s) a s (loaded k (current_of
 unfoldable pub load_geometry_step : ℕ → ℕ → State → State
 load_geometry_step n a s = after_load (λ x. geometry_step (write_of s.geometry (n % 64) x) s) a s (loaded K.Word 0 a s)
 
-abbrev pub after_store : ℕ → State → Stored → State
-after_store a s S.Done = next_step s
-after_store a s S.Bus = trap_step 7 0 s
-after_store a s S.Address = fault_step 5 a s
+abbrev pub after_store : ℕ → State → Result (Unit {0}) Fault → State
+after_store a s (Ok x) = next_step s
+after_store a s (Err Bus) = trap_step 7 0 s
+after_store a s (Err Address) = fault_step 5 a s
 
 unfoldable pub store_step : StoreKind → ℕ → ℕ → State → State
 store_step k x a s =

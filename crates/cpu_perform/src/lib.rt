@@ -17,10 +17,11 @@ use cpu_execute::Effect;
 use cpu_state::control::{Control, read_system, restored, user, write_system};
 use gte_registers::reads::read;
 use gte_registers::writes::write;
-use memory::addresses::Virt;
-use memory::loads::{LoadKind, Loaded, load};
-use memory::stores::{StoreKind, Stored, store};
+use memory::addresses::{Fault, Virt};
+use memory::loads::{LoadKind, load};
+use memory::stores::{StoreKind, store};
 
+#[tactic(auto, unfolding(crate::specs::Perform::load_step))]
 fn do_load(
     c: Control,
     r: &mut [u32; 32],
@@ -34,21 +35,21 @@ fn do_load(
     ensures { (g : List ℕ) → state result r.new g (memory ram.now pad.now) ≡ load_step k n v.0 (state c r.old g (memory ram.now pad.now)) }
 {
     match load(k, ram, pad, v, user(c.system), current(c.pending, r, n)) {
-        Loaded::Value(x) => do_wait(c, r, n, x),
-        Loaded::Bus => trap(c, r, 7, 0),
-        Loaded::Address => fault(c, r, 4, v.0),
+        Ok(x) => do_wait(c, r, n, x),
+        Err(Fault::Bus) => trap(c, r, 7, 0),
+        Err(Fault::Address) => fault(c, r, 4, v.0),
     }
 }
 
 // What follows a store. The store itself stands in `perform`, since a function that holds all of it is large enough to stay out of
 // line, and the control state would then go through memory.
-fn after_store(c: Control, r: &mut [u32; 32], s: Stored, v: Virt) -> Control
+fn after_store(c: Control, r: &mut [u32; 32], s: Result<(), Fault>, v: Virt) -> Control
     ensures { (g : List ℕ) (m : Memory) → state result r.new g m ≡ after_store v.0 (state c r.old g m) s }
 {
     match s {
-        Stored::Done => do_next(c, r),
-        Stored::Bus => trap(c, r, 7, 0),
-        Stored::Address => fault(c, r, 5, v.0),
+        Ok(()) => do_next(c, r),
+        Err(Fault::Bus) => trap(c, r, 7, 0),
+        Err(Fault::Address) => fault(c, r, 5, v.0),
     }
 }
 
@@ -60,6 +61,7 @@ fn do_write_geometry(c: Control, r: &mut [u32; 32], g: &mut [u32; 64], n: usize,
 }
 
 // LWC2.
+#[tactic(auto, unfolding(crate::specs::Perform::load_geometry_step))]
 fn do_load_geometry(
     c: Control,
     r: &mut [u32; 32],
@@ -73,13 +75,14 @@ fn do_load_geometry(
     ensures { state result r.new (view g.new) (memory ram.now pad.now) ≡ load_geometry_step n v.0 (state c r.old (view g.old) (memory ram.now pad.now)) }
 {
     match load(LoadKind::Word, ram, pad, v, user(c.system), 0) {
-        Loaded::Value(x) => do_write_geometry(c, r, g, n, x),
-        Loaded::Bus => trap(c, r, 7, 0),
-        Loaded::Address => fault(c, r, 4, v.0),
+        Ok(x) => do_write_geometry(c, r, g, n, x),
+        Err(Fault::Bus) => trap(c, r, 7, 0),
+        Err(Fault::Address) => fault(c, r, 4, v.0),
     }
 }
 
 // Every effect but a command, which is the caller's: here it changes nothing.
+#[tactic(auto, unfolding(crate::specs::Perform::perform_of, crate::specs::Perform::store_step))]
 pub fn perform(
     e: Effect,
     c: Control,
@@ -107,7 +110,7 @@ pub fn perform(
         Effect::Restore => do_system(c, r, restored(c.system)),
         Effect::ReadGeometry(n, k) => do_wait(c, r, n, read(g, k)),
         Effect::WriteGeometry(k, v) => do_write_geometry(c, r, g, k, v),
-        Effect::Command(word) => c,
+        Effect::Command(_) => c,
         Effect::LoadGeometry(k, v) => do_load_geometry(c, r, g, ram, pad, k, v),
         Effect::StoreGeometry(k, v) => {
             let s = store(StoreKind::Word, ram, pad, v, user(c.system), read(g, k));

@@ -4,7 +4,6 @@ use Rattle.tables.specs.Table.{◌⇒◌, lookup}
 use Rattle.words.specs.Words.{bit_at}
 use Rattle.cpu_decode.specs.declared.owners.Owner.{Owner}
 use Rattle.cpu_decode.specs.declared.owners.Owner.TheVariants.{Processor, Coprocessor0, Coprocessor1, Coprocessor2, Coprocessor3}
-use Rattle.cpu_alu.specs.Modular.{bit}
 use Rattle.cpu_state.specs.declared.control.Pending.{Pending}
 use Rattle.cpu_state.specs.declared.control.System.{System}
 

@@ -5,7 +5,8 @@ ghost use Rattle.cpu_state.specs.System.{user_of, usable_of, read_system_of, wri
 use cpu_alu::mul_div::HiLo;
 use cpu_decode::owners::Owner;
 
-// PC, next PC, and 1 after a jump or branch (word 38).
+// PC, next PC, and 1 after a jump or branch. slot is a word and no bool: it is word 38 of the image, which a host may set to any
+// number.
 #[derive(Clone, Copy)]
 pub struct Flow {
     pub pc: u32,
@@ -13,7 +14,7 @@ pub struct Flow {
     pub slot: u32,
 }
 
-// The load that waits: register 0 where there is none.
+// The load that waits: register 0 where there is none. No Option: the image has the two words, and the landing needs no test.
 #[derive(Clone, Copy)]
 pub struct Pending {
     pub register: u32,
@@ -46,18 +47,13 @@ pub fn user(s: System) -> bool
 }
 
 // An owner's instructions may be used; else the step is CpU.
+#[tactic(auto, using(std::proofs::lemmas::Bool::Decides::nat_tests), unfolding(crate::specs::System::usable_of))]
 pub fn usable(o: Owner, s: System) -> bool
     ensures { result ≡ usable_of o s }
 {
     match o {
         Owner::Processor => true,
-        Owner::Coprocessor0 => {
-            if user(s) {
-                s.sr / 0x1000_0000 % 2 == 1
-            } else {
-                true
-            }
-        }
+        Owner::Coprocessor0 => !user(s) || s.sr / 0x1000_0000 % 2 == 1,
         Owner::Coprocessor1 => s.sr / 0x2000_0000 % 2 == 1,
         Owner::Coprocessor2 => s.sr / 0x4000_0000 % 2 == 1,
         Owner::Coprocessor3 => s.sr / 0x8000_0000 % 2 == 1,
@@ -65,6 +61,7 @@ pub fn usable(o: Owner, s: System) -> bool
 }
 
 // What MFC0 reads.
+#[tactic(auto, unfolding(crate::specs::System::read_system_of))]
 pub fn read_system(n: usize, s: System) -> u32
     ensures { result ≡ read_system_of n s }
 {
@@ -78,34 +75,30 @@ pub fn read_system(n: usize, s: System) -> u32
 }
 
 // What MTC0 leaves in Cop0.
+#[tactic(auto, unfolding(crate::specs::System::write_system_of))]
 pub fn write_system(n: usize, v: u32, s: System) -> System
     ensures { result ≡ write_system_of n v s }
 {
     match n {
         12 => System {
             sr: v & 0xf24f_ff3f,
-            cause: s.cause,
-            epc: s.epc,
-            badv: s.badv,
+            ..s
         },
         13 => System {
-            sr: s.sr,
             cause: s.cause / 0x400 * 0x400 + v / 0x100 % 4 * 0x100 + s.cause % 0x100,
-            epc: s.epc,
-            badv: s.badv,
+            ..s
         },
         _ => s,
     }
 }
 
 // RFE: the mode and interrupt bits that the exception pushed come back.
+#[tactic(auto, unfolding(crate::specs::System::restored_of))]
 pub fn restored(s: System) -> System
     ensures { result ≡ restored_of s }
 {
     System {
         sr: s.sr / 16 * 16 + s.sr / 4 % 16,
-        cause: s.cause,
-        epc: s.epc,
-        badv: s.badv,
+        ..s
     }
 }

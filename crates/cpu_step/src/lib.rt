@@ -3,12 +3,12 @@
 
 #![tactic(auto)]
 
-ghost use Rattle.std.specs.Prelude.{◌≡◌, false};
+ghost use Rattle.std.specs.Prelude.{◌≡◌};
 ghost use Rattle.memory.specs.Memory.{Memory, memory, MemoryOk};
 ghost use Rattle.gte_registers.specs.Registers.{view};
 ghost use Rattle.cpu_state.specs.State.{state};
-ghost use Rattle.cpu_perform.specs.Perform.{tick, perform_of};
-ghost use Rattle.cpu_step.specs.Step.{command_step, issue_of, step_of};
+ghost use Rattle.cpu_perform.specs.Perform.{perform_of};
+ghost use Rattle.cpu_step.specs.Step.{stepped, command_step, issue_of, step_of};
 
 use cpu_decode::fields::fields_of;
 use cpu_decode::operations::decode;
@@ -18,38 +18,24 @@ use cpu_effects::traps::{fault, trap};
 use cpu_execute::{Effect, execute};
 use cpu_perform::perform;
 use cpu_state::control::{Control, usable, user};
-use gte::{Outcome, command};
-use memory::addresses::Virt;
-use memory::loads::{Loaded, fetch};
+use gte::{Unlisted, command};
+use memory::addresses::{Fault, Virt};
+use memory::loads::fetch;
 
-// The control state after a step. stop: the machine stands before an unlisted COP2 command, as it was.
-#[derive(Clone, Copy)]
-pub struct Stepped {
-    pub stop: bool,
-    pub control: Control,
-}
-
-fn done(c: Control) -> Stepped
-    ensures { result ≡ record { stop = false; control = c } }
+#[tactic(auto, unfolding(gte::specs::Commands::command_of))]
+fn do_command(
+    c: Control,
+    r: &mut [u32; 32],
+    g: &mut [u32; 64],
+    word: u32,
+) -> Result<Control, Unlisted>
+    ensures { (m : Memory) → stepped result c r.new (view g.new) m ≡ command_step word (state c r.old (view g.old) m) }
 {
-    Stepped {
-        stop: false,
-        control: c,
-    }
+    command(g, word)?;
+    Ok(do_next(c, r))
 }
 
-fn do_command(c: Control, r: &mut [u32; 32], g: &mut [u32; 64], word: u32) -> Stepped
-    ensures { (m : Memory) → tick result.stop (state result.control r.new (view g.new) m) ≡ command_step word (state c r.old (view g.old) m) }
-{
-    match command(g, word) {
-        Outcome::Done => done(do_next(c, r)),
-        Outcome::Unlisted => Stepped {
-            stop: true,
-            control: c,
-        },
-    }
-}
-
+#[tactic(auto, using(crate::proofs::Others::other), unfolding(cpu_perform::specs::Perform::perform_of))]
 fn carry_out(
     e: Effect,
     c: Control,
@@ -57,17 +43,18 @@ fn carry_out(
     g: &mut [u32; 64],
     ram: &mut [u8],
     pad: &mut [u8],
-) -> Stepped
+) -> Result<Control, Unlisted>
     requires { MemoryOk (memory ram.old pad.old) }
-    ensures { tick result.stop (state result.control r.new (view g.new) (memory ram.new pad.new)) ≡ perform_of command_step e (state c r.old (view g.old) (memory ram.old pad.old)) }
+    ensures { stepped result c r.new (view g.new) (memory ram.new pad.new) ≡ perform_of command_step e (state c r.old (view g.old) (memory ram.old pad.old)) }
 {
     match e {
         Effect::Command(word) => do_command(c, r, g, word),
-        _ => done(perform(e, c, r, g, ram, pad)),
+        _ => Ok(perform(e, c, r, g, ram, pad)),
     }
 }
 
 // The step of a word that was fetched.
+#[tactic(auto, unfolding(crate::specs::Step::issue_of))]
 fn issue(
     word: u32,
     c: Control,
@@ -75,9 +62,9 @@ fn issue(
     g: &mut [u32; 64],
     ram: &mut [u8],
     pad: &mut [u8],
-) -> Stepped
+) -> Result<Control, Unlisted>
     requires { MemoryOk (memory ram.old pad.old) }
-    ensures { tick result.stop (state result.control r.new (view g.new) (memory ram.new pad.new)) ≡ issue_of word (state c r.old (view g.old) (memory ram.old pad.old)) }
+    ensures { stepped result c r.new (view g.new) (memory ram.new pad.new) ≡ issue_of word (state c r.old (view g.old) (memory ram.old pad.old)) }
 {
     let o = owner_of(word);
     if usable(o, c.system) {
@@ -91,24 +78,27 @@ fn issue(
         let e = execute(op, t, a, b, c.flow.next, c.product);
         carry_out(e, c, r, g, ram, pad)
     } else {
-        done(trap(c, r, 11, number(o)))
+        Ok(trap(c, r, 11, number(o)))
     }
 }
 
-// One step: fetch, the tests in 01's order, the instruction. An exception is a step like any other.
+// One step: fetch, the tests in 01's order, the instruction. An exception is a step like any other; before an unlisted COP2 command
+// the machine stands as it was. What is lent comes by one parameter each, and the control state by value: a struct of what is lent would
+// need a clause for each part beside the one equation, and the control state would go through memory.
+#[tactic(auto, unfolding(crate::specs::Step::step_of))]
 pub fn step(
     c: Control,
     r: &mut [u32; 32],
     g: &mut [u32; 64],
     ram: &mut [u8],
     pad: &mut [u8],
-) -> Stepped
+) -> Result<Control, Unlisted>
     requires { MemoryOk (memory ram.old pad.old) }
-    ensures { tick result.stop (state result.control r.new (view g.new) (memory ram.new pad.new)) ≡ step_of (state c r.old (view g.old) (memory ram.old pad.old)) }
+    ensures { stepped result c r.new (view g.new) (memory ram.new pad.new) ≡ step_of (state c r.old (view g.old) (memory ram.old pad.old)) }
 {
     match fetch(ram, Virt(c.flow.pc), user(c.system)) {
-        Loaded::Value(word) => issue(word, c, r, g, ram, pad),
-        Loaded::Bus => done(trap(c, r, 6, 0)),
-        Loaded::Address => done(fault(c, r, 4, c.flow.pc)),
+        Ok(word) => issue(word, c, r, g, ram, pad),
+        Err(Fault::Bus) => Ok(trap(c, r, 6, 0)),
+        Err(Fault::Address) => Ok(fault(c, r, 4, c.flow.pc)),
     }
 }

@@ -6,10 +6,11 @@ use mathlib.Core.Path.{◌≡◌, refl, sym, ap, subst, ◌∙◌}
 use native.Mathlib.Omega.{arith}
 use borrow.Author.Tests.{eqb-true, eqb-false, ltb-true, ltb-false}
 use lib.Dec.{eqb, ltb}
-use lib.ListN.{length, take, drop, get_or, length-append, length-drop, take-append-drop}
+use lib.ListN.{length, drop, get_or, length-append, length-drop, take-append-drop}
 use lib.Seq.{drop-cons, take_at, drop_at, take-append_seam, drop-append_seam, get_or-append_seam}
+use Rattle.answer.specs.Codes.{code_of}
 use Rattle.draw_list.specs.Packets.{Unknown, told_by, Packet, Split, none, packet, NoPacket, Refused, unknown, short, Answered, accepted, refused}
-use Rattle.draw_list.specs.Widths.{width_of, code_of}
+use Rattle.draw_list.specs.Widths.{width_of, refusal_of}
 use Rattle.draw_list.specs.Exact.{OneSplit, EveryList, OneAnswer, Accepted, RefusedAt, AnsweredExactly}
 use Rattle.draw_list.proofs.Widths.{cases, complete, sized, sound, refused_none, none_refused}
 use Rattle.draw_list.proofs.Splits.{refused_from}
@@ -86,7 +87,7 @@ answer (suc turns) (c ∷ l) h =
     let r = answer turns (drop (width_of (c ∷ l)) (c ∷ l)) (omega arith) in
     let q = after k.0 r.2 in
     (r.0, q.0, subst (λ (x : List ℕ). Answered x r.0 q.0) (take-append-drop (width_of (c ∷ l)) (c ∷ l)) q.1))
-    (λ e. (code_of (told_by c), 0, refused none (none_refused c l (omega (arith, ltb-false 0 (width_of (c ∷ l)) e)))))
+    (λ e. (code_of (refusal_of (told_by c) 0), 0, refused none (none_refused c l 0 (omega (arith, ltb-false 0 (width_of (c ∷ l)) e)))))
 
 pub every_list : EveryList
 every_list l = answer (length l) l (omega arith)

@@ -1,12 +1,15 @@
 -- Packets one after the other: what is read so far, and what it answers in the end.
-use Prim.Native.Nat.{ℕ, suc, ◌+◌, ◌-◌, ◌≤◌, ◌<◌}
+use Prim.Native.Nat.{ℕ, suc, ◌+◌, ◌≤◌, ◌<◌}
 use mathlib.Core.List.{List, [], ◌∷◌, ◌++◌, append_assoc, append-nil}
 use mathlib.Core.Path.{◌≡◌, refl, ap, subst, ◌∙◌}
+use Rattle.std.specs.Prelude.{Some, None}
+use Rattle.answer.specs.Codes.{code_of, number_of}
+use Rattle.answer.specs.declared.Refusal.{Refusal}
 use native.Mathlib.Omega.{arith}
 use lib.ListN.{length, take, drop, get_or, length-append, length-drop, take-append-drop}
 use lib.Seq.{drop-cons, length-take-le, take_all, take-add}
-use Rattle.draw_list.specs.Packets.{told_by, Packet, Split, none, packet, Refused, Answered, accepted, refused}
-use Rattle.draw_list.specs.Widths.{width_of, behind_packet, code_of}
+use Rattle.draw_list.specs.Packets.{Shape, Words, Polyline, Unknown, told_by, Packet, Split, none, packet, Refused, Answered, accepted, refused}
+use Rattle.draw_list.specs.Widths.{width_of, behind_packet, refusal_of}
 use Rattle.draw_list.proofs.Widths.{sized, some_behind, none_behind, sound, none_refused}
 
 -- a packet more, behind the others
@@ -42,9 +45,9 @@ module _ (l : List ℕ) (at count : ℕ) (r : Read l at count) where
   ends h = subst (λ (n : ℕ). Answered l 0 n) r.counted (accepted (rw (take_all at l h) at r.split))
 
   module _ (h : at < length l) where
-    pub more : (next : ℕ) → next ≡ behind_packet l at → (next ≡ 0 → ⊥) → Read l next (count + 1) × (at < next)
-    more next e o =
-        let p = some_behind at (width_of (drop at l)) next e o in
+    pub more : (next : ℕ) → Some next ≡ behind_packet l at → Read l next (count + 1) × (at < next)
+    more next e =
+        let p = some_behind at (width_of (drop at l)) next e in
         let k = sound (drop at l) (width_of (drop at l)) refl p.1 in
         let d = length-drop at l in
         let t : take next l ≡ take at l ++ take (width_of (drop at l)) (drop at l) = ap (λ (n : ℕ). take n l) p.0 ∙ take-add at (width_of (drop at l)) l in (
@@ -60,8 +63,16 @@ module _ (l : List ℕ) (at count : ℕ) (r : Read l at count) where
     begins : drop at l ≡ get_or l at 0 ∷ drop (suc at) l
     begins = drop-cons l at 0 h
 
-    refused_here : width_of (drop at l) ≡ 0 → Refused (drop at l) (code_of (told_by (get_or l at 0)))
-    refused_here e = rw begins (none_refused (get_or l at 0) (drop (suc at) l) (rw begins at e))
+    refused_here : width_of (drop at l) ≡ 0 → Refused (drop at l) (code_of (refusal_of (told_by (get_or l at 0)) at))
+    refused_here e = rw begins (none_refused (get_or l at 0) (drop (suc at) l) at (rw begins at e))
 
-    pub ends_at : (next code : ℕ) → next ≡ behind_packet l at → next ≡ 0 → code ≡ code_of (told_by (get_or l at 0)) → Answered l code at
-    ends_at next code e z f = refused_from l at code r.within r.split (rw f (refused_here (none_behind at _ next e z)))
+    numbered : (s : Shape) → number_of (refusal_of s at) ≡ at
+    unfolding refusal_of
+    numbered (Words n) = refl
+    numbered Polyline = refl
+    numbered Unknown = refl
+
+    pub ends_at : (e : Refusal) → None ≡ behind_packet l at → e ≡ refusal_of (told_by (get_or l at 0)) at → Answered l (code_of e) (number_of e)
+    ends_at e z f = rw (f, numbered (told_by (get_or l at 0))) (refused_from l at _ r.within r.split (refused_here (none_behind at _ z)))
+
+pub ruleset reading = (start, no_more, ends, more, ends_at)

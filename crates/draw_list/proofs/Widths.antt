@@ -1,8 +1,11 @@
 -- How many words begin a list as a packet, place by place; and that they are one exactly where Packets says so.
 use Prim.Native.Nat.{ℕ, zero, suc, ◌+◌, ◌-◌, ◌/◌, ◌≤◌, ◌<◌}
-use mathlib.Core.Bool.{Bool, true, false, cond, ◌&&◌}
+use mathlib.Core.Bool.{Bool, true, false, ◌&&◌}
 use mathlib.Core.List.{List, [], ◌∷◌, ◌++◌}
 use mathlib.Core.Path.{◌≡◌, refl, sym, ap, subst, ◌∙◌}
+use Rattle.std.specs.Prelude.{Option, Some, None}
+use Rattle.answer.specs.Codes.{code_of}
+use Rattle.answer.specs.declared.Refusal.TheVariants.{UnknownPacket, CutPacket}
 use native.Mathlib.Numerals.{add-one}
 use native.Mathlib.Omega.{arith}
 use lib.Dec.{eqb, leb, ltb, T, eqb→eq}
@@ -12,7 +15,7 @@ use borrow.Author.Tests.{eq-eqb, ne_eqb, le-leb, lt-leb, lt-ltb, le-ltb, eqb-tru
 use Rattle.tables.specs.Table.{Row, ◌⇒◌, lookup}
 use Rattle.tables.specs.Every.{and_left, and_right, every, at}
 use Rattle.draw_list.specs.Packets.{Shape, Words, Polyline, Unknown, packets, shape_of, told_by, line_end, Points, ended, point, Packet, fixed, polyline, NoPacket, Refused, unknown, short}
-use Rattle.draw_list.specs.Widths.{points_of, whole_of, line_of, begun_by, width_of, behind, behind_packet, behind_line, code_of, fixed_of, fixed_from, fixed_widths}
+use Rattle.draw_list.specs.Widths.{points_of, whole_of, line_of, begun_by, width_of, behind, behind_packet, behind_line, refusal_of, fixed_of, fixed_from, fixed_widths}
 
 pub cases : (b : Bool) (P : Type 0) → (b ≡ true → P) → (b ≡ false → P) → P
 cases true P y n = y refl
@@ -90,34 +93,42 @@ fixed_from_lem i (suc n) (suc k) h = fixed_from_lem (suc i) n k (omega arith) �
 pub fixed_at : (w : List ℕ) (top : ℕ) → w ≡ fixed_widths → top < 256 → get_or w top 0 ≡ fixed_of (shape_of top)
 fixed_at w top e h = rw e (fixed_from_lem 0 256 top h ∙ ap (λ (m : ℕ). fixed_of (shape_of m)) (omega arith))
 
-module _ (top n : ℕ) (h : top < 256) (e : n ≡ fixed_of (shape_of top)) (other : top ≡ 0x48 → ⊥) where
-  pub unknown_code : n ≡ 0 → 11 ≡ code_of (shape_of top)
-  unfolding fixed_of code_of
-  unknown_code z =
-      shapes (shape_of top) _ (λ k f. absurd (omega (arith, told_some top k f, rw f at e))) (λ f. absurd (other (line_only top h f))) (λ f. rw f)
+module _ (l : List ℕ) (at top n : ℕ) (t : top ≡ get_or l at 0 / 0x100_0000) (h : top < 256) where
+  pub line_refused : top ≡ 0x48 → CutPacket at ≡ refusal_of (told_by (get_or l at 0)) at
+  unfolding refusal_of
+  line_refused e = rw (← t, e, line_byte)
 
-  pub known_code : (n ≡ 0 → ⊥) → 12 ≡ code_of (shape_of top)
-  unfolding fixed_of code_of
-  known_code z = shapes (shape_of top) _ (λ k f. rw f) (λ f. rw f) (λ f. absurd (z (rw f at e)))
+  module _ (other : top ≡ 0x48 → ⊥) (e : n ≡ fixed_of (shape_of top)) where
+    pub unknown_refused : n ≡ 0 → UnknownPacket at ≡ refusal_of (told_by (get_or l at 0)) at
+    unfolding fixed_of refusal_of
+    unknown_refused z =
+        rw (← t)
+        (shapes (shape_of top) _ (λ k f. absurd (omega (arith, told_some top k f, rw f at e))) (λ f. absurd (other (line_only top h f))) (λ f. rw f))
+
+    pub known_refused : (n ≡ 0 → ⊥) → CutPacket at ≡ refusal_of (told_by (get_or l at 0)) at
+    unfolding fixed_of refusal_of
+    known_refused z = rw (← t) (shapes (shape_of top) _ (λ k f. rw f) (λ f. rw f) (λ f. absurd (z (rw f at e))))
 
 -- ---- the place behind a packet
 
-behind_none : (at w : ℕ) → w ≡ 0 → 0 ≡ behind at w
+behind_none : (at w : ℕ) → w ≡ 0 → None ≡ behind at w
 unfolding behind
 behind_none at w e = rw e
 
-behind_some : (at w n : ℕ) → w ≡ n → 1 ≤ n → at + n ≡ behind at w
+behind_some : (at w n : ℕ) → w ≡ n → 1 ≤ n → Some (at + n) ≡ behind at w
 unfolding behind
 behind_some at w n e h = rw (e, ne_eqb n 0 (omega arith))
 
 -- where a packet begins, there is a place behind it, and else none
-pub some_behind : (at w next : ℕ) → next ≡ behind at w → (next ≡ 0 → ⊥) → (next ≡ at + w) × (1 ≤ w)
+pub some_behind : (at w next : ℕ) → Some next ≡ behind at w → (next ≡ at + w) × (1 ≤ w)
 unfolding behind
-some_behind at w next e h = cases (eqb w 0) _ (λ z. absurd (h (rw z at e))) (λ z. (rw z at e, omega (arith, eqb-false w 0 z)))
+some_behind at w next e =
+    cases (eqb w 0) _ (λ z. let s : ◌≡◌ {A = Option ℕ} (Some next) None = rw z at e in absurd (cc s))
+    (λ z. let s : Some next ≡ Some (at + w) = rw z at e in let n : next ≡ at + w = cc s in (n, omega (arith, eqb-false w 0 z)))
 
-pub none_behind : (at w next : ℕ) → next ≡ behind at w → next ≡ 0 → w ≡ 0
+pub none_behind : (at w : ℕ) → None ≡ behind at w → w ≡ 0
 unfolding behind
-none_behind at w next e h = cases (eqb w 0) _ (λ z. eqb-true w 0 z) (λ z. let d : next ≡ at + w = rw z at e in omega arith)
+none_behind at w e = cases (eqb w 0) _ (λ z. eqb-true w 0 z) (λ z. let s : ◌≡◌ {A = Option ℕ} None (Some (at + w)) = rw z at e in absurd (cc s))
 
 -- ---- polylines
 
@@ -134,46 +145,48 @@ unfolding line_of whole_of
 full n left h g = rw (le-ltb _ _ h, le-leb _ _ g)
 
 module _ (l : List ℕ) (at : ℕ) where
-  pub no_room : length l - at < 4 → 0 ≡ behind_line l at
+  pub no_room : length l - at < 4 → None ≡ behind_line l at
   no_room g =
       behind_none at _
       (cases (ltb (points_of (drop (at + 1) l)) 2) _ (λ e. few _ _ (ltb-true _ _ e)) (λ e. let k = ltb-false (points_of (drop (at + 1) l)) 2 e in cut _ _ k (omega arith)))
 
   module _ (room : 4 ≤ length l - at) where
-    pub no_point : get_or l (at + 1) 0 ≡ line_end → 0 ≡ behind_line l at
+    pub no_point : get_or l (at + 1) 0 ≡ line_end → None ≡ behind_line l at
     no_point e = behind_none at _ (few _ _ (omega (arith, points_hit l (at + 1) (omega arith) e)))
 
     module _ (first : get_or l (at + 1) 0 ≡ line_end → ⊥) where
-      pub one_point : get_or l (at + 2) 0 ≡ line_end → 0 ≡ behind_line l at
+      pub one_point : get_or l (at + 2) 0 ≡ line_end → None ≡ behind_line l at
       one_point e = behind_none at _ (few _ _ (omega (arith, points_miss l (at + 1) (at + 2) (omega arith) (omega arith) first, points_hit l (at + 2) (omega arith) e)))
 
       module _ (second : get_or l (at + 2) 0 ≡ line_end → ⊥) (stop : ℕ) (s : stop ≡ at + 3 + points_of (drop (at + 3) l)) where
         points : points_of (drop (at + 1) l) ≡ 2 + points_of (drop (at + 3) l)
         points = omega (arith, points_miss l (at + 1) (at + 2) (omega arith) (omega arith) first, points_miss l (at + 2) (at + 3) (omega arith) (omega arith) second)
 
-        pub line_ends : stop < length l → stop + 1 ≡ behind_line l at
+        pub line_ends : stop < length l → Some (stop + 1) ≡ behind_line l at
         line_ends g =
             let e : stop + 1 ≡ at + (points_of (drop (at + 1) l) + 2) = omega (arith, points) in
-            e ∙ behind_some at _ _ (full _ _ (omega (arith, points)) (omega (arith, points))) (omega arith)
+            ap Some e ∙ behind_some at _ _ (full _ _ (omega (arith, points)) (omega (arith, points))) (omega arith)
 
-        pub unended : length l ≤ stop → 0 ≡ behind_line l at
+        pub unended : length l ≤ stop → None ≡ behind_line l at
         unended g = behind_none at _ (cut _ _ (omega (arith, points)) (omega (arith, points)))
+
+pub ruleset lines = (no_room, no_point, one_point)
 
 -- ---- what begins at a place, by the top byte of the word there
 
 module _ (l : List ℕ) (at top : ℕ) (h : at < length l) (t : top ≡ get_or l at 0 / 0x100_0000) where
-  begun : width_of (drop at l) ≡ begun_by (shape_of top) (drop (at + 1) l)
+  begun_at : width_of (drop at l) ≡ begun_by (shape_of top) (drop (at + 1) l)
   unfolding width_of
-  begun = rw (drop-cons l at 0 h, add-one, t)
+  begun_at = rw (drop-cons l at 0 h, add-one, t)
 
   left : suc (length (drop (at + 1) l)) ≡ length l - at
   left = omega (arith, length-drop (at + 1) l)
 
   line_begun : top ≡ 0x48 → width_of (drop at l) ≡ line_of (points_of (drop (at + 1) l)) (length l - at)
   unfolding begun_by
-  line_begun line = rw (begun, line, line_byte, left)
+  line_begun line = rw (begun_at, line, line_byte, left)
 
-  pub behind_line_lem : (next : ℕ) → top ≡ 0x48 → next ≡ behind_line l at → next ≡ behind_packet l at
+  pub behind_line_lem : (next : Option ℕ) → top ≡ 0x48 → next ≡ behind_line l at → next ≡ behind_packet l at
   behind_line_lem next line e = rw (line_begun line) e
 
   module _ (n : ℕ) (small : top < 256) (other : top ≡ 0x48 → ⊥) (e : n ≡ fixed_of (shape_of top)) where
@@ -181,21 +194,25 @@ module _ (l : List ℕ) (at top : ℕ) (h : at < length l) (t : top ≡ get_or l
     unfolding fixed_of begun_by whole_of
     fixed_begun =
         shapes (shape_of top) _
-        (λ m f. let d : n ≡ m = rw f at e in rw (begun, f, left, d))
+        (λ m f. let d : n ≡ m = rw f at e in rw (begun_at, f, left, d))
         (λ f. absurd (other (line_only top small f)))
-        (λ f. let d : n ≡ 0 = rw f at e in rw (begun, f, d, le-leb 0 (length l - at) (omega arith)))
+        (λ f. let d : n ≡ 0 = rw f at e in rw (begun_at, f, d, le-leb 0 (length l - at) (omega arith)))
 
-    pub no_width : n ≡ 0 → 0 ≡ behind_packet l at
+    pub no_width : n ≡ 0 → None ≡ behind_packet l at
     unfolding whole_of
     no_width z = behind_none at _ (rw (fixed_begun, z, le-leb 0 (length l - at) (omega arith)))
 
-    pub whole_at : (n ≡ 0 → ⊥) → n ≤ length l - at → at + n ≡ behind_packet l at
+    pub whole_at : (n ≡ 0 → ⊥) → n ≤ length l - at → Some (at + n) ≡ behind_packet l at
     unfolding whole_of
     whole_at z k = behind_some at _ n (rw (fixed_begun, le-leb _ _ k)) (omega arith)
 
-    pub cut_at : length l - at < n → 0 ≡ behind_packet l at
+    pub cut_at : length l - at < n → None ≡ behind_packet l at
     unfolding whole_of
     cut_at k = behind_none at _ (rw (fixed_begun, lt-leb _ _ k))
+
+pub ruleset begun = (fixed_at, behind_line_lem, no_width, whole_at, cut_at)
+
+pub ruleset refusals = (fixed_at, line_refused, unknown_refused, known_refused)
 
 -- ---- packets
 
@@ -264,10 +281,10 @@ refused_none (unknown {c} {l} e) = no_packet (c ∷ l) (unknown_width c l e)
 refused_none (short k none) = none
 
 -- where no packet begins, the word is refused
-pub none_refused : (c : ℕ) (l : List ℕ) → width_of (c ∷ l) ≡ 0 → Refused (c ∷ l) (code_of (told_by c))
-unfolding code_of
-none_refused c l h =
+pub none_refused : (c : ℕ) (l : List ℕ) (at : ℕ) → width_of (c ∷ l) ≡ 0 → Refused (c ∷ l) (code_of (refusal_of (told_by c) at))
+unfolding refusal_of
+none_refused c l at h =
     shapes (told_by c) _
-    (λ n e. rw e (short {c = c} {l = l} (λ f. omega (arith, ap code_of (sym e ∙ f))) (no_packet (c ∷ l) h)))
-    (λ e. rw e (short {c = c} {l = l} (λ f. omega (arith, ap code_of (sym e ∙ f))) (no_packet (c ∷ l) h)))
+    (λ n e. rw e (short {c = c} {l = l} (λ f. omega (arith, ap (λ s. code_of (refusal_of s at)) (sym e ∙ f))) (no_packet (c ∷ l) h)))
+    (λ e. rw e (short {c = c} {l = l} (λ f. omega (arith, ap (λ s. code_of (refusal_of s at)) (sym e ∙ f))) (no_packet (c ∷ l) h)))
     (λ e. rw e (unknown {c = c} {l = l} e))

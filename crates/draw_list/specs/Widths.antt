@@ -1,5 +1,7 @@
 -- How many words the packet has that begins a list, computed; proofs/Widths has that it is a packet of Packets.
-use Rattle.std.specs.Prelude.{cond, List, [], ◌∷◌, ℕ, zero, suc, ◌+◌, ◌-◌, eqb, leb, ltb, length, drop}
+use Rattle.std.specs.Prelude.{cond, List, [], ◌∷◌, ℕ, zero, suc, ◌+◌, ◌-◌, eqb, leb, ltb, length, drop, Option, Some, None}
+use Rattle.answer.specs.declared.Refusal.{Refusal}
+use Rattle.answer.specs.declared.Refusal.TheVariants.{UnknownPacket, CutPacket}
 use Rattle.draw_list.specs.Packets.{Shape, Words, Polyline, Unknown, shape_of, told_by, line_end}
 
 -- how many words stand before the first 55555555h
@@ -26,22 +28,22 @@ unfoldable pub width_of : List ℕ → ℕ
 width_of [] = 0
 width_of (c ∷ l) = begun_by (told_by c) l
 
--- the place behind a packet of n words that begins at a place; 0 where n is 0, and none begins
-unfoldable pub behind : ℕ → ℕ → ℕ
-behind at n = cond (eqb n 0) 0 (at + n)
+-- the place behind a packet of n words that begins at a place; none where n is 0, and no packet begins
+unfoldable pub behind : ℕ → ℕ → Option ℕ
+behind at n = cond (eqb n 0) None (Some (at + n))
 
-abbrev pub behind_packet : List ℕ → ℕ → ℕ
+abbrev pub behind_packet : List ℕ → ℕ → Option ℕ
 behind_packet l at = behind at (width_of (drop at l))
 
 -- behind a polyline
-abbrev pub behind_line : List ℕ → ℕ → ℕ
+abbrev pub behind_line : List ℕ → ℕ → Option ℕ
 behind_line l at = behind at (line_of (points_of (drop (at + 1) l)) (length l - at))
 
--- the code for a word of this shape where no packet begins
-unfoldable pub code_of : Shape → ℕ
-code_of (Words n) = 12
-code_of Polyline = 12
-code_of Unknown = 11
+-- why no packet begins at a place with a word of this shape
+unfoldable pub refusal_of : Shape → ℕ → Refusal
+refusal_of (Words n) at = CutPacket at
+refusal_of Polyline at = CutPacket at
+refusal_of Unknown at = UnknownPacket at
 
 -- ---- the table of the code: the words of a packet by its top byte, 0 where the byte tells no number
 

@@ -2,51 +2,66 @@
 
 #![tactic(auto)]
 
-ghost use Rattle.std.specs.Prelude.{◌≡◌};
+ghost use Rattle.std.specs.Prelude.{◌≡◌, ◌≤◌, IfOk};
 ghost use Rattle.memory.specs.Memory.{memory};
 ghost use Rattle.window.specs.Window.{window_part};
 ghost use Rattle.causes.specs.Causes.{Causes};
 ghost use Rattle.draw_list.specs.Packets.{Answered};
 ghost use Rattle.saved.specs.Save.{saved, save_of};
 ghost use Rattle.saved.specs.Load.{loaded, Loads};
-ghost use Rattle.fliskadee.specs.Find.{answer, find_of};
+ghost use Rattle.image.specs.Refusals.{most_steps};
+ghost use Rattle.fliskadee.specs.Find.{answer, find_of, packed_of};
 ghost use Rattle.fliskadee.specs.Answer.{answer_of};
 ghost use Rattle.fliskadee.specs.Interface.{interface_number};
 ghost use Rattle.fliskadee.specs.Parts.{part_number};
 
-use answer::Answer;
+use answer::{Answer, Refusal};
 use causes::list_causes;
 use draw_list::check_list;
 use image::admission::{read_image, refusal};
 use image::bytes::write_image;
 use memory::addresses::Virt;
-use run::run_until;
+use run::{End, run_until};
 use saved::{load_machine, save_machine};
 use window::part_of;
 
-// The run of the machine that an image, RAM and pad describe, ended by a bit of the mask.
-fn run_with(image: &mut [u8], ram: &mut [u8], pad: &mut [u8], count: u64, mask: u32) -> u64
-    ensures { answer result image.new (memory ram.new pad.new) ≡ find_of image.old (memory ram.old pad.old) count mask }
+// The run of the machine that an image, RAM and pad describe, ended by a bit of the mask: how it ended, and the steps completed.
+fn run_with(
+    image: &mut [u8],
+    ram: &mut [u8],
+    pad: &mut [u8],
+    count: u64,
+    mask: u32,
+) -> Result<(End, u64), Refusal>
+    ensures is { answer (packed_of result) image.new (memory ram.new pad.new) ≡ find_of image.old (memory ram.old pad.old) count mask }
+    ensures most { IfOk result (λ x. x.1 ≤ most_steps) }
 {
     let a = read_image(image);
-    let code = refusal(a.code, ram, pad, count);
-    if code != 0 {
-        return code * 0x10_0000;
-    }
-    let first = a.control;
+    refusal(a.refusal, ram, pad, count)?;
     let mut r = a.registers;
     let mut g = a.geometry;
-    let d = run_until(first, &mut r, &mut g, ram, pad, count, mask);
-    let last = d.control;
-    write_image(image, last, &r, &g);
-    d.code * 0x10_0000 + d.steps
+    let d = run_until(a.control, &mut r, &mut g, ram, pad, count, mask);
+    write_image(image, d.control, &r, &g);
+    Ok((d.end, d.steps))
 }
 
-// At most count steps of the machine that an image, RAM and pad describe.
+// What a run answers, in one number for C: code × 1,048,576 + steps completed.
+fn packed(run: Result<(End, u64), Refusal>) -> u64
+    requires { IfOk run (λ x. x.1 ≤ most_steps) }
+    ensures { result ≡ packed_of run }
+{
+    match run {
+        Ok((end, steps)) => end.code() * 0x10_0000 + steps,
+        Err(e) => e.code() * 0x10_0000,
+    }
+}
+
+// At most count steps of the machine that an image, RAM and pad describe. This call and the next differ in the mask alone: the interface
+// for C has both.
 pub fn fliskadee_run(image: &mut [u8], ram: &mut [u8], pad: &mut [u8], count: u64) -> u64
     ensures { answer result image.new (memory ram.new pad.new) ≡ answer_of image.old (memory ram.old pad.old) count }
 {
-    run_with(image, ram, pad, count, 0)
+    packed(run_with(image, ram, pad, count, 0))
 }
 
 // The same, ended after the first step at which a bit of the mask comes up in FLAG: code 16.
@@ -59,7 +74,7 @@ pub fn fliskadee_find_flag(
 ) -> u64
     ensures { answer result image.new (memory ram.new pad.new) ≡ find_of image.old (memory ram.old pad.old) count mask }
 {
-    run_with(image, ram, pad, count, mask)
+    packed(run_with(image, ram, pad, count, mask))
 }
 
 // The window, as C can take it: in one number, which memory it is in, where it begins there, and how long it is.

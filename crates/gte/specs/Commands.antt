@@ -1,5 +1,5 @@
 -- The 22 commands on the 64 words.
-use Rattle.std.specs.Prelude.{Bool, true, false, List, [], ◌∷◌, ◌++◌, ℕ, ◌+◌, ◌/◌, ◌%◌, pos, ◌*ℤ◌}
+use Rattle.std.specs.Prelude.{Bool, true, false, List, [], ◌∷◌, ◌++◌, ℕ, ◌+◌, ◌/◌, ◌%◌, pos, ◌*ℤ◌, Result, Ok, Err}
 use Rattle.tables.specs.Table.{Row, ◌⇒◌, lookup}
 use Rattle.gte_arithmetic.specs.Checks.{Check}
 use Rattle.words.specs.Words.{bit_at}
@@ -22,8 +22,7 @@ use Rattle.gte_shading.specs.Shading.{cc_of, cc_checks, cdp_of, cdp_checks}
 use Rattle.gte_shading.specs.Interpolation.{gpf_from, gpf_of, gpl_from, gpl_of}
 use Rattle.gte_colour.specs.Cueing.{depth_cued_checks}
 use Rattle.gte_shading.specs.DepthCueing.{dcpl_from, dcpl_of, intpl_from, intpl_of, dpcs_from, dpcs_of, dpct_from, dpct_of}
-use Rattle.gte.specs.declared.Outcome.{Outcome}
-use Rattle.gte.specs.declared.Outcome.TheVariants.{Done, Unlisted}
+use Rattle.gte.specs.declared.Unlisted.{Unlisted}
 use Rattle.gte.specs.declared.Long.{Long}
 use Rattle.gte.specs.declared.Long.TheVariants.{Cc, Cdp, Dpct, Ncct}
 
@@ -151,42 +150,42 @@ joined (p ∷ ps) = joined_from p ps
 unfoldable pub checks_of : Command → Bool → Bool → ℕ → Inputs → List Check
 checks_of c sf lm word i = joined (parts_of c sf lm word i)
 
-abbrev pub listed : Command → Outcome
-listed RTPS = Done
-listed NCLIP = Done
-listed OP = Done
-listed DPCS = Done
-listed INTPL = Done
-listed MVMVA = Done
-listed NCDS = Done
-listed CDP = Done
-listed NCDT = Done
-listed NCCS = Done
-listed CC = Done
-listed NCS = Done
-listed NCT = Done
-listed SQR = Done
-listed DCPL = Done
-listed DPCT = Done
-listed AVSZ3 = Done
-listed AVSZ4 = Done
-listed RTPT = Done
-listed GPF = Done
-listed GPL = Done
-listed NCCT = Done
-listed unlisted = Unlisted
+abbrev pub listed : Command → Result (Unit {0}) Unlisted
+listed RTPS = Ok tt
+listed NCLIP = Ok tt
+listed OP = Ok tt
+listed DPCS = Ok tt
+listed INTPL = Ok tt
+listed MVMVA = Ok tt
+listed NCDS = Ok tt
+listed CDP = Ok tt
+listed NCDT = Ok tt
+listed NCCS = Ok tt
+listed CC = Ok tt
+listed NCS = Ok tt
+listed NCT = Ok tt
+listed SQR = Ok tt
+listed DCPL = Ok tt
+listed DPCT = Ok tt
+listed AVSZ3 = Ok tt
+listed AVSZ4 = Ok tt
+listed RTPT = Ok tt
+listed GPF = Ok tt
+listed GPL = Ok tt
+listed NCCT = Ok tt
+listed unlisted = Err (record {})
 
 -- whether there is such a command: carried out, or not listed
-unfoldable pub outcome_of : ℕ → Outcome
+unfoldable pub outcome_of : ℕ → Result (Unit {0}) Unlisted
 outcome_of word = listed (command_in word)
 
-abbrev pub is_done : Outcome → Bool
-is_done Done = true
-is_done Unlisted = false
+abbrev pub is_done : Result (Unit {0}) Unlisted → Bool
+is_done (Ok x) = true
+is_done (Err e) = false
 
-abbrev pub if_done : Outcome → List ℕ → List ℕ → List ℕ
-if_done Done a w = a
-if_done Unlisted a w = w
+abbrev pub if_done : Result (Unit {0}) Unlisted → List ℕ → List ℕ → List ℕ
+if_done (Ok x) a w = a
+if_done (Err e) a w = w
 
 -- the words that a command leaves; one that is not listed changes nothing
 unfoldable pub command_of : ℕ → List ℕ → List ℕ

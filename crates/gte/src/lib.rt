@@ -19,12 +19,9 @@ use gte_shading::colours::{cc, cdp};
 use gte_shading::depth_cueing::{dcpl, dpcs, dpct, intpl};
 use gte_shading::interpolation::{gpf, gpl};
 
-// Carried out, or not listed: then nothing has changed.
-#[derive(Clone, Copy)]
-pub enum Outcome {
-    Done,
-    Unlisted,
-}
+// The low six bits of a command word are none of the 22.
+#[derive(Clone, Copy, Debug, PartialEq, Eq)]
+pub struct Unlisted;
 
 // sf: MAC1..3 are shifted by 12.
 pub fn bit_19(word: u32) -> bool
@@ -51,6 +48,7 @@ enum Long {
 
 // They stand in one function that is called from four places, and so stays one: what is called from one place becomes part of the
 // step, which has no room for them (ARCHITECTURE.md, "Why the code is shaped so").
+#[tactic(auto, unfolding(crate::specs::Commands::leaves))]
 fn long_command(c: &mut [u32; 64], k: Long, sf: bool, lm: bool)
     ensures { view c.new ≡ reads (leaves (long_of k) sf lm 0 (inputs_of (view c.old)) (view c.old)) }
 {
@@ -62,8 +60,10 @@ fn long_command(c: &mut [u32; 64], k: Long, sf: bool, lm: bool)
     }
 }
 
-// One GTE command over the 64 words; the GTE has no other entry but reads and writes of registers.
-pub fn command(c: &mut [u32; 64], word: u32) -> Outcome
+// One GTE command over the 64 words; the GTE has no other entry but reads and writes of registers. The numbers are the papers', and
+// the definitions have them in one table: names for them would stand between the two.
+#[tactic(auto, unfolding(crate::specs::Commands::commands, crate::specs::Commands::outcome_of, crate::specs::Commands::command_of, crate::specs::Commands::leaves))]
+pub fn command(c: &mut [u32; 64], word: u32) -> Result<(), Unlisted>
     ensures is { result ≡ outcome_of word }
     ensures after { view c.new ≡ command_of word (view c.old) }
 {
@@ -99,40 +99,38 @@ pub fn command(c: &mut [u32; 64], word: u32) -> Outcome
         0x3d => gpf(c, sf, lm),
         0x3e => gpl(c, sf, lm),
         0x3f => long_command(c, Long::Ncct, sf, lm),
-        _ => {
-            return Outcome::Unlisted;
-        }
+        _ => return Err(Unlisted),
     }
-    Outcome::Done
+    Ok(())
 }
 
 // Whether a command word is one of the 22.
+#[tactic(auto, unfolding(crate::specs::Commands::commands, crate::specs::Commands::outcome_of))]
 pub fn is_listed(word: u32) -> bool
     ensures { result ≡ is_done (outcome_of word) }
 {
-    match word % 64 {
-        0x01 => true,
-        0x06 => true,
-        0x0c => true,
-        0x10 => true,
-        0x11 => true,
-        0x12 => true,
-        0x13 => true,
-        0x14 => true,
-        0x16 => true,
-        0x1b => true,
-        0x1c => true,
-        0x1e => true,
-        0x20 => true,
-        0x28 => true,
-        0x29 => true,
-        0x2a => true,
-        0x2d => true,
-        0x2e => true,
-        0x30 => true,
-        0x3d => true,
-        0x3e => true,
-        0x3f => true,
-        _ => false,
-    }
+    matches!(
+        word % 64,
+        0x01 | 0x06
+            | 0x0c
+            | 0x10
+            | 0x11
+            | 0x12
+            | 0x13
+            | 0x14
+            | 0x16
+            | 0x1b
+            | 0x1c
+            | 0x1e
+            | 0x20
+            | 0x28
+            | 0x29
+            | 0x2a
+            | 0x2d
+            | 0x2e
+            | 0x30
+            | 0x3d
+            | 0x3e
+            | 0x3f
+    )
 }

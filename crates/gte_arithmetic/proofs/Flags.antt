@@ -1,47 +1,30 @@
 -- The laws of FLAG: a bit is set exactly when some check of that bit fails, bit 31 clear means that no counted bit is set,
 -- and register 63 reads alike when it is read twice.
-use mathlib.Core.Path.{◌≡◌, refl, sym, ap, ap₂, ◌∙◌, subst}
+use mathlib.Core.Path.{◌≡◌, refl, sym, ap, ap₂, ◌∙◌}
 use mathlib.Core.Bool.{Bool, true, false, cond, ◌&&◌, ◌||◌}
 use mathlib.Core.List.{List, [], ◌∷◌, ◌++◌}
 use Prim.Native.Nat.{ℕ, zero, suc, ◌+◌, ◌*◌, ◌/◌, ◌%◌, ◌^◌, ◌<◌, ◌≤◌, max, min}
 use native.Mathlib.Omega.{arith}
-use native.Mathlib.Nat.{mod-lt, mul-add-mod_self_right, div-one, pow-suc, mul-mod_left, div-eq_of_lt, mul_comm, div-div-eq-div-mul, mul-div_cancel, zero-div, zero-add, mod-eq_of_lt, lt_of_le_of_lt}
-use lib.Pow.{pow_pos}
+use native.Mathlib.Nat.{mod-lt, zero-div, zero-add, mod-eq_of_lt, lt_of_le_of_lt}
 use borrow.Author.Tests.{eqb-true, eqb-false, eq-eqb, ne_eqb}
-use lib.Dec.{eqb, lit<, eqb-zero-suc, eqb-suc-zero, eqb-suc-suc}
-use lib.Bits.{bit_or, bit_and, or_step, or_zero_r, or_self, or_shr, or_shifted, and_shr, and_step, and_le_r, and_block, and_zero_r, and_mod, and_high}
+use lib.Dec.{eqb, lit<}
+use lib.Bits.{bit_or, bit_and, or_zero_r, or_self, or_shifted, and_le_r, and_block, and_zero_r, and_mod, and_high}
 use lib.Bits as bits
-use lib.Arith.{bin_ind}
+use Rattle.std.proofs.lemmas.Nat.Bits.{bit_at_or, bit_at_and, bit_at-pow_same, bit_at-pow_other, bit_at-zero, same_from_bits}
 use Rattle.gte_arithmetic.specs.Checks.{or, raise, Check, fails, flags, flag_word, counted, some}
 use Rattle.words.specs.Words.{bit_at}
 
 -- ---- laws of the OR
-odd : (a b : ℕ) → bit_or a b % 2 ≡ max (a % 2) (b % 2)
-odd a b = ap (λ (x : ℕ). x % 2) (or_step a b) ∙ mul-add-mod_self_right (bit_or (a / 2) (b / 2)) 2 (max (a % 2) (b % 2)) ∙ omega arith
-
-and_odd : (a b : ℕ) → bit_and a b % 2 ≡ min (a % 2) (b % 2)
-and_odd a b = ap (λ (x : ℕ). x % 2) (and_step a b) ∙ mul-add-mod_self_right (bit_and (a / 2) (b / 2)) 2 (min (a % 2) (b % 2)) ∙ omega arith
-
-half : (a b : ℕ) → bit_or a b / 2 ≡ bit_or (a / 2) (b / 2)
-half a b = or_shr a b 1
-
-assoc : (a b c : ℕ) → bit_or (bit_or a b) c ≡ bit_or a (bit_or b c)
-assoc = bin_ind (λ (n : ℕ). (b c : ℕ) → bit_or (bit_or n b) c ≡ bit_or n (bit_or b c)) (λ b c. refl) step
+pub or_assoc : (a b c : ℕ) → or (or a b) c ≡ or a (or b c)
+unfolding or
+or_assoc a b c =
+    same_from_bits (bit_or (bit_or a b) c) (bit_or a (bit_or b c))
+    (λ i.
+    bit_at_or (bit_or a b) c i ∙ ap (λ (n : ℕ). max n (c / 2 ^ i % 2)) (bit_at_or a b i) ∙ digit (a / 2 ^ i % 2) (b / 2 ^ i % 2) (c / 2 ^ i % 2)
+    ∙ sym (bit_at_or a (bit_or b c) i ∙ ap (max (a / 2 ^ i % 2)) (bit_at_or b c i)))
   where
     digit : (x y z : ℕ) → max (max x y) z ≡ max x (max y z)
     digit x y z = omega arith
-
-    step : (n : ℕ) → ((b c : ℕ) → bit_or (bit_or (n / 2) b) c ≡ bit_or (n / 2) (bit_or b c)) → (b c : ℕ) → bit_or (bit_or n b) c ≡ bit_or n (bit_or b c)
-    step n ih b c =
-        or_step (bit_or n b) c
-        ∙ ap₂ (λ (x y : ℕ). x * 2 + y)
-        (ap (λ (x : ℕ). bit_or x (c / 2)) (half n b) ∙ ih (b / 2) (c / 2) ∙ ap (bit_or (n / 2)) (sym (half b c)))
-        (ap (λ (x : ℕ). max x (c % 2)) (odd n b) ∙ digit (n % 2) (b % 2) (c % 2) ∙ ap (max (n % 2)) (sym (odd b c)))
-        ∙ sym (or_step n (bit_or b c))
-
-pub or_assoc : (a b c : ℕ) → or (or a b) c ≡ or a (or b c)
-unfolding or
-or_assoc a b c = assoc a b c
 
 pub or_none : (a : ℕ) → or a 0 ≡ a
 unfolding or
@@ -84,19 +67,15 @@ two_digits (suc zero) (suc (suc v)) h k = let e : ⊥ = omega arith in absurd e
 pub or_bit : (b x y : ℕ) → bit_at b (or x y) ≡ (bit_at b x || bit_at b y)
 unfolding or
 or_bit b x y =
-    ap (λ (n : ℕ). eqb (n % 2) 1) (or_shr x y b) ∙ ap (λ (n : ℕ). eqb n 1) (odd (x / 2 ^ b) (y / 2 ^ b))
+    ap (λ (n : ℕ). eqb n 1) (bit_at_or x y b)
     ∙ two_digits (x / 2 ^ b % 2) (y / 2 ^ b % 2) (omega arith) (omega arith)
 
 power_bit : (b k : ℕ) → bit_at b (2 ^ k) ≡ eqb k b
-power_bit zero zero = refl
-power_bit zero (suc k) = ap (λ (n : ℕ). eqb n 1) (ap (λ (n : ℕ). n % 2) (div-one (2 ^ suc k) ∙ pow-suc 2 k) ∙ mul-mod_left (2 ^ k) 2) ∙ sym (eqb-suc-zero k)
-power_bit (suc b) zero = ap (λ (n : ℕ). eqb (n % 2) 1) (div-eq_of_lt {n = 1} {m = 2 ^ suc b} (omega (arith, pow-suc 2 b, pow_pos b))) ∙ sym (eqb-zero-suc b)
-power_bit (suc b) (suc k) = ap (λ (n : ℕ). eqb (n % 2) 1) (halves b k) ∙ power_bit b k ∙ sym (eqb-suc-suc k b)
+power_bit b k = go (eqb k b) refl
   where
-    halves : (b k : ℕ) → 2 ^ suc k / 2 ^ suc b ≡ 2 ^ k / 2 ^ b
-    halves b k =
-        ap₂ (λ (x y : ℕ). x / y) (pow-suc 2 k) (pow-suc 2 b ∙ mul_comm (2 ^ b) 2) ∙ sym (div-div-eq-div-mul (2 ^ k * 2) 2 (2 ^ b))
-        ∙ ap (λ (x : ℕ). x / 2 ^ b) (mul-div_cancel (2 ^ k) (lit< tt))
+    go : (t : Bool) → eqb k b ≡ t → bit_at b (2 ^ k) ≡ t
+    go true q = let e : k ≡ b = eqb-true k b q in rw e (ap (λ (n : ℕ). eqb n 1) (bit_at-pow_same b))
+    go false q = ap (λ (n : ℕ). eqb n 1) (bit_at-pow_other k b (λ e. eqb-false k b q (sym e)))
 
 none_bit : (b : ℕ) → bit_at b 0 ≡ false
 none_bit b = ap (λ (n : ℕ). eqb (n % 2) 1) (zero-div (2 ^ b))
@@ -132,7 +111,9 @@ unfolding flag_word
 clear_31 f b h e = go (eqb (bit_and f counted) 0) refl h
   where
     go : (t : Bool) → eqb (bit_and f counted) 0 ≡ t → bit_at 31 (cond t 0 0x8000_0000 + bit_and f 0x7fff_f000) ≡ false → bit_at b f ≡ false
-    go true q h = least (f / 2 ^ b % 2) (counted / 2 ^ b % 2) (omega arith) e (sym (and_odd (f / 2 ^ b) (counted / 2 ^ b)) ∙ ap (λ (n : ℕ). n % 2) (sym (and_shr f counted b) ∙ ap (λ (n : ℕ). n / 2 ^ b) (eqb-true (bit_and f counted) 0 q) ∙ zero-div (2 ^ b)))
+    go true q h =
+        least (f / 2 ^ b % 2) (counted / 2 ^ b % 2) (omega arith) e
+        (sym (bit_at_and f counted b) ∙ ap (λ (n : ℕ). n / 2 ^ b % 2) (eqb-true (bit_and f counted) 0 q) ∙ bit_at-zero b)
     go false q h = absurd (clash (sym (is_set f (and_le_r f 0x7fff_f000)) ∙ h))
       where
         clash : ◌≡◌ {A = Bool} true false → ⊥
@@ -206,7 +187,7 @@ digit_and (suc (suc u)) v h k = let e : ⊥ = omega arith in absurd e
 
 pub and_bit : (b x y : ℕ) → bit_at b (bit_and x y) ≡ (bit_at b x && bit_at b y)
 and_bit b x y =
-    ap (λ (n : ℕ). eqb (n % 2) 1) (and_shr x y b) ∙ ap (λ (n : ℕ). eqb n 1) (and_odd (x / 2 ^ b) (y / 2 ^ b))
+    ap (λ (n : ℕ). eqb n 1) (bit_at_and x y b)
     ∙ digit_and (x / 2 ^ b % 2) (y / 2 ^ b % 2) (omega arith) (omega arith)
 
 -- every bit of register 63 but bit 31 is that of what was written, under the mask of bits 30..12
@@ -225,19 +206,10 @@ flag_word_bit f b other = go (eqb (bit_and f counted) 0) ∙ and_bit b f 0x7fff_
 
 -- a number with no bit set is 0
 no_bits : (n : ℕ) → ((b : ℕ) → bit_at b n ≡ false) → n ≡ 0
-no_bits = bin_ind (λ (n : ℕ). ((b : ℕ) → bit_at b n ≡ false) → n ≡ 0) (λ h. refl) step
+no_bits n h = same_from_bits n 0 (λ b. digit_0 (n / 2 ^ b % 2) (omega arith) (eqb-false (n / 2 ^ b % 2) 1 (h b)) ∙ sym (bit_at-zero b))
   where
-    low : (n : ℕ) → bit_at 0 n ≡ false → n % 2 ≡ 0
-    low n h = let k = eqb-false (n % 2) 1 (sym (ap (λ (x : ℕ). eqb (x % 2) 1) (div-one n)) ∙ h) in omega arith
-
-    shifted : (n b : ℕ) → n / 2 / 2 ^ b ≡ n / 2 ^ suc b
-    shifted n b = div-div-eq-div-mul n 2 (2 ^ b) ∙ ap (λ (x : ℕ). n / x) (mul_comm 2 (2 ^ b) ∙ sym (pow-suc 2 b))
-
-    step : (n : ℕ) → (((b : ℕ) → bit_at b (n / 2) ≡ false) → n / 2 ≡ 0) → ((b : ℕ) → bit_at b n ≡ false) → n ≡ 0
-    step n ih h =
-        let u = ih (λ b. ap (λ (x : ℕ). eqb (x % 2) 1) (shifted n b) ∙ h (suc b)) in
-        let v = low n (h 0) in
-        omega arith
+    digit_0 : (d : ℕ) → d < 2 → (d ≡ 1 → ⊥) → d ≡ 0
+    digit_0 d l n = omega arith
 
 -- where each counted bit is clear, so is bit 31: with `clear_31`, bit 31 is the OR of the counted bits
 pub clear_all : (f : ℕ) → ((b : ℕ) → bit_at b counted ≡ true → bit_at b f ≡ false) → bit_at 31 (flag_word f) ≡ false

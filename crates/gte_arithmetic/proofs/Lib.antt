@@ -1,2 +1,2 @@
 pub mod Flags
-mod Levels
+mod Wraps

@@ -6,46 +6,34 @@ ghost use Rattle.integers.specs.Wrap.{wrap};
 ghost use Rattle.integers.specs.Clamp.{outside};
 ghost use Rattle.gte_arithmetic.specs.Values.{scale, sum_flag, mac0_flag, mac_of};
 
-use crate::limits::Limited;
-use words::shifts::{low_signed, shift_12};
-
-// A value of 32 bits that was stored, and the bits that its test sets.
-#[derive(Clone, Copy)]
-pub struct Stored {
-    pub v: i32,
-    pub flag: u32,
-}
+use crate::values::Checked;
+use words::shifts::{low_signed, shift_down};
 
 // x lies in lo..hi.
 pub fn within(lo: i64, hi: i64, x: i64) -> bool
     ensures { result ≡ not (outside lo hi x) }
 {
-    if x < lo {
-        false
-    } else if hi < x {
-        false
-    } else {
-        true
-    }
+    lo <= x && x <= hi
 }
 
 // The 44-bit test of a whole sum, and its wrap.
-pub fn wrap_44(x: i64, over: u32, under: u32) -> Limited
+#[tactic(auto, using(crate::proofs::Wraps::arms), unfolding(crate::specs::Values::sum_flag))]
+pub fn wrap_44(x: i64, over: u32, under: u32) -> Checked<i64>
     requires { Mag x (3 * 2 ^ 43) }
     ensures { result ≡ record { v = wrap (2 ^ 43) x; flag = sum_flag over under x } }
 {
     if x < -0x800_0000_0000 {
-        Limited {
+        Checked {
             v: x + 0x1000_0000_0000,
             flag: under,
         }
     } else if 0x7ff_ffff_ffff < x {
-        Limited {
+        Checked {
             v: x - 0x1000_0000_0000,
             flag: over,
         }
     } else {
-        Limited { v: x, flag: 0 }
+        Checked { v: x, flag: 0 }
     }
 }
 
@@ -53,7 +41,7 @@ pub fn wrap_44(x: i64, over: u32, under: u32) -> Limited
 pub fn shift(x: i64, sf: bool) -> i64
     ensures { result ≡ shr_z x (scale sf) }
 {
-    if sf { shift_12(x) } else { x }
+    if sf { shift_down::<12>(x) } else { x }
 }
 
 // A 44-bit value shifted by 12·sf, and its low 32 bits.
@@ -64,27 +52,30 @@ pub fn cut(x: i64, sf: bool) -> i32
 }
 
 // MAC1..3: a whole sum tested, wrapped, shifted and stored.
-pub fn store_mac(x: i64, sf: bool, over: u32, under: u32) -> Stored
+#[tactic(auto, unfolding(crate::specs::Values::mac_of))]
+pub fn store_mac(x: i64, sf: bool, over: u32, under: u32) -> Checked<i32>
     requires { Mag x (3 * 2 ^ 43) }
     ensures { result ≡ record { v = mac_of sf x; flag = sum_flag over under x } }
 {
     let w = wrap_44(x, over, under);
-    Stored {
+    Checked {
         v: cut(w.v, sf),
         flag: w.flag,
     }
 }
 
 // MAC0: tested against 32 signed bits, its low 32 bits stored.
-pub fn store_mac0(x: i64) -> Stored
+#[tactic(auto, using(crate::proofs::Flags::or_none, crate::proofs::Flags::none_or), unfolding(crate::specs::Values::mac0_flag))]
+pub fn store_mac0(x: i64) -> Checked<i32>
     ensures { result ≡ record { v = wrap (2 ^ 31) x; flag = mac0_flag x } }
 {
     let v = low_signed(x);
-    if x < -0x8000_0000 {
-        Stored { v, flag: 0x8000 }
+    let flag = if x < -0x8000_0000 {
+        0x8000
     } else if 0x7fff_ffff < x {
-        Stored { v, flag: 0x1_0000 }
+        0x1_0000
     } else {
-        Stored { v, flag: 0 }
-    }
+        0
+    };
+    Checked { v, flag }
 }

@@ -1,27 +1,28 @@
-// What commands compute with: vectors, the camera, and what a line, a colour, a vertex and an average leave.
+// What commands compute with: vectors, a value after its test, the camera, and what a line, a colour, a vertex and an
+// average leave.
+
+// Three numbers, for x, y and z.
+#[derive(Clone, Copy)]
+pub struct Triple<T> {
+    pub x: T,
+    pub y: T,
+    pub z: T,
+}
 
 // V0..V2, or IR1..3.
-#[derive(Clone, Copy)]
-pub struct Vector {
-    pub x: i16,
-    pub y: i16,
-    pub z: i16,
-}
+pub type Vector = Triple<i16>;
 
 // TR, BK, FC, or MAC1..3.
-#[derive(Clone, Copy)]
-pub struct Long {
-    pub x: i32,
-    pub y: i32,
-    pub z: i32,
-}
+pub type Long = Triple<i32>;
 
 // Three exact values.
+pub type Wide = Triple<i64>;
+
+// A value after a test, with the bits of FLAG that the test sets.
 #[derive(Clone, Copy)]
-pub struct Wide {
-    pub x: i64,
-    pub y: i64,
-    pub z: i64,
+pub struct Checked<T> {
+    pub v: T,
+    pub flag: u32,
 }
 
 // What a line of MAC1..3 and IR1..3 leaves.
@@ -77,3 +78,29 @@ pub struct Average {
     pub otz: u32,
     pub flag: u32,
 }
+
+// The bits of FLAG that belong to a MAC of a line: its sum above 44 bits and below them, and its IR out of range.
+#[derive(Clone, Copy)]
+pub struct MacBits {
+    pub over: u32,
+    pub under: u32,
+    pub ir: u32,
+}
+
+pub const MAC1: MacBits = MacBits {
+    over: 0x4000_0000,
+    under: 0x800_0000,
+    ir: 0x100_0000,
+};
+
+pub const MAC2: MacBits = MacBits {
+    over: 0x2000_0000,
+    under: 0x400_0000,
+    ir: 0x80_0000,
+};
+
+pub const MAC3: MacBits = MacBits {
+    over: 0x1000_0000,
+    under: 0x200_0000,
+    ir: 0x40_0000,
+};

@@ -1,5 +1,5 @@
 // The causes of each of the 22 commands: its lines once more, with the values that the command itself computes. Carries 02, Ticket 5.
-// A function lists the causes of one part; of which bit and which part it is told.
+// A function lists the causes of one part; of which bit and which part, the rows tell.
 
 #![tactic(auto)]
 

@@ -6,7 +6,7 @@ use Prim.Native.Nat.{ℕ}
 use lib.ListN.{get_or}
 use Rattle.gte_arithmetic.specs.Checks.{or, flags}
 use Rattle.gte_line.specs.Line.{line_checks}
-use Rattle.gte_arithmetic.specs.declared.values.Wide.{Wide}
+use Rattle.gte_arithmetic.specs.Triples.{Wide}
 use Rattle.gte_colour.specs.Shade.{farther, blend_of, shade_checks}
 use Rattle.gte_arithmetic.specs.declared.values.Shade.{Shade}
 use Rattle.gte_inputs.specs.Inputs.{Inputs, inputs_of}

@@ -5,7 +5,7 @@ use mathlib.Core.List.{List, ◌++◌}
 use Prim.Native.Nat.{ℕ}
 use Rattle.gte_arithmetic.specs.Checks.{or, Check, flags}
 use Rattle.gte_line.specs.Line.{line_checks, line_checks_at}
-use Rattle.gte_arithmetic.specs.declared.values.Wide.{Wide}
+use Rattle.gte_arithmetic.specs.Triples.{Wide}
 use Rattle.gte_arithmetic.proofs.Flags.{flags_++}
 
 line_flags : (n : ℕ) (sf lm : Bool) (s : Wide) → flags (line_checks n sf lm s) ≡ flags (line_checks 0 sf lm s)

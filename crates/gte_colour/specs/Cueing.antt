@@ -2,7 +2,7 @@
 use Rattle.std.specs.Prelude.{Bool, false, List, ◌++◌, ℕ}
 use Rattle.gte_arithmetic.specs.Checks.{Check, flags}
 use Rattle.gte_line.specs.Line.{line_checks}
-use Rattle.gte_arithmetic.specs.declared.values.Wide.{Wide}
+use Rattle.gte_arithmetic.specs.Triples.{Wide}
 use Rattle.gte_colour.specs.Shade.{farther, blend_of, shade_of, shade_checks}
 use Rattle.gte_arithmetic.specs.declared.values.Shade.{Shade}
 use Rattle.gte_inputs.specs.Inputs.{Inputs}

@@ -4,8 +4,7 @@ use Rattle.std.specs.Prelude.{Bool, List, [], ◌++◌, ℕ}
 use Rattle.gte_arithmetic.specs.Checks.{Check}
 use Rattle.gte_sums.specs.Sums.{no_long, product_of}
 use Rattle.gte_line.specs.Line.{line_with, line_of, line_checks}
-use Rattle.gte_arithmetic.specs.declared.values.Vector.{Vector}
-use Rattle.gte_arithmetic.specs.declared.values.Wide.{Wide}
+use Rattle.gte_arithmetic.specs.Triples.{Vector, Wide}
 use Rattle.gte_arithmetic.specs.declared.values.Line.{Line}
 use Rattle.gte_sums.specs.Tones.{tones_of}
 use Rattle.gte_inputs.specs.Inputs.{Inputs, normal}

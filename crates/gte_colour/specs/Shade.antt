@@ -3,10 +3,9 @@ use Rattle.std.specs.Prelude.{Bool, false, List, [], ◌∷◌, ℕ, ◌+◌, �
 use Rattle.gte_arithmetic.specs.Checks.{Check, flags}
 use Rattle.gte_arithmetic.specs.Values.{mac_of, colour_of, sum_checks, ir_check, colour_check}
 use Rattle.gte_line.specs.Line.{macs_of, irs_of, line_checks}
-use Rattle.gte_arithmetic.specs.declared.values.Long.{Long}
-use Rattle.gte_arithmetic.specs.declared.values.Wide.{Wide}
+use Rattle.gte_arithmetic.specs.Triples.{Long, Wide}
 use Rattle.gte_arithmetic.specs.declared.values.Shade.{Shade}
-use Rattle.gte_colour.specs.declared.shade.Mixed.{Mixed}
+use Rattle.gte_arithmetic.specs.declared.values.Checked.{Checked}
 
 -- FC·1000h - MAC, a tested MAC value
 unfoldable pub farther : Long → Wide → Wide
@@ -18,7 +17,7 @@ blend_of sf fc f s =
     let i = irs_of false (macs_of sf (farther fc s)) in
     record { x = i.x *ℤ f +ℤ s.x; y = i.y *ℤ f +ℤ s.y; z = i.z *ℤ f +ℤ s.z }
 
-unfoldable pub mixed_of : Bool → Long → ℤ → Wide → Mixed
+unfoldable pub mixed_of : Bool → Long → ℤ → Wide → Checked Wide
 mixed_of sf fc f s = record { v = blend_of sf fc f s; flag = flags (line_checks 0 sf false (farther fc s)) }
 
 -- three colours below the CODE byte of the word that has it

@@ -11,16 +11,13 @@ use gte_inputs::scalars::ir0;
 use gte_inputs::vectors::{far_colour, ir};
 
 // A shade with further flags.
+#[tactic(auto, unfolding(gte_arithmetic::specs::Checks::or))]
 pub fn with_flag(f: u32, s: Shade) -> Shade
     ensures { result ≡ record { mac = s.mac; ir = s.ir; rgb = s.rgb; flag = or f s.flag } }
 {
-    let mac = s.mac;
-    let ir = s.ir;
     Shade {
-        mac,
-        ir,
-        rgb: s.rgb,
         flag: f | s.flag,
+        ..s
     }
 }
 
@@ -30,6 +27,5 @@ pub fn cue(c: &[u32; 64], t: Wide, sf: bool, lm: bool) -> Shade
     ensures { result ≡ depth_cued sf lm (inputs_of c.now) t }
 {
     let m = mix(t, far_colour(c), ir0(c), sf);
-    let v = m.v;
-    with_flag(m.flag, finish_colour(v, c[6], sf, lm))
+    with_flag(m.flag, finish_colour(m.v, c[6], sf, lm))
 }

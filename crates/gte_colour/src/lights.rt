@@ -12,6 +12,7 @@ use gte_line::finish;
 use gte_sums::transform::product;
 
 // BK·1000h + LCM.IR.
+#[tactic(auto, unfolding(crate::specs::Lights::back_sums))]
 pub fn back_sums(c: &[u32; 64], v: Vector) -> Wide
     ensures is { result ≡ back_sums (inputs_of c.now) v }
     ensures small { Bounded (3 * 2 ^ 43) result }
@@ -20,6 +21,7 @@ pub fn back_sums(c: &[u32; 64], v: Vector) -> Wide
 }
 
 // LLM.V.
+#[tactic(auto, unfolding(crate::specs::Lights::light_sums))]
 pub fn light_sums(c: &[u32; 64], k: usize) -> Wide
     requires { k < 3 }
     ensures is { result ≡ light_sums (inputs_of c.now) k }
@@ -42,13 +44,9 @@ pub fn normal_line(c: &[u32; 64], k: usize, sf: bool, lm: bool) -> Line
     ensures { result ≡ normal_line sf lm (inputs_of c.now) k }
 {
     let a = light_line(c, k, sf, lm);
-    let v = a.ir;
-    let b = finish(back_sums(c, v), sf, lm);
-    let mac = b.mac;
-    let ir = b.ir;
+    let b = finish(back_sums(c, a.ir), sf, lm);
     Line {
-        mac,
-        ir,
         flag: a.flag | b.flag,
+        ..b
     }
 }

@@ -8,15 +8,9 @@ ghost use Rattle.gte_line.specs.Line.{cell_of};
 ghost use Rattle.gte_colour.specs.Shade.{farther, mixed_of, colour_word, shade_of};
 
 use gte_arithmetic::limits::limit_colour;
-use gte_arithmetic::values::{Long, Shade, Vector, Wide};
+use gte_arithmetic::values::{Checked, Long, MAC1, MAC2, MAC3, MacBits, Shade, Vector, Wide};
 use gte_line::{finish, finish_one};
-
-// MAC+(FC-MAC)·IR0, exact.
-#[derive(Clone, Copy)]
-pub struct Mixed {
-    pub v: Wide,
-    pub flag: u32,
-}
+use gte_sums::products::times;
 
 // One of three colours.
 #[derive(Clone, Copy)]
@@ -32,7 +26,7 @@ fn away_one(fc: i32, b: i64) -> i64
     ensures is { result ≡ fc *ℤ pos 4096 -ℤ b }
     ensures small { Mag result (3 * 2 ^ 43) }
 {
-    (fc as i64) * 4096 - b
+    i64::from(fc) * 4096 - b
 }
 
 // FC-MAC, exact.
@@ -53,31 +47,32 @@ fn toward_one(ir: i16, f: i16, b: i64) -> i64
     ensures is { result ≡ ir *ℤ f +ℤ b }
     ensures small { Mag result (3 * 2 ^ 43) }
 {
-    (ir as i64) * (f as i64) + b
+    times(ir, f) + b
 }
 
 // The interpolation with the far colour.
-pub fn mix(s: Wide, fc: Long, f: i16, sf: bool) -> Mixed
+pub fn mix(s: Wide, fc: Long, f: i16, sf: bool) -> Checked<Wide>
     requires { Bounded (2 ^ 28) s }
     ensures is { result ≡ mixed_of sf fc f s }
     ensures small { Bounded (3 * 2 ^ 43) result.v }
 {
     let l = finish(away(fc, s), sf, false);
-    let i = l.ir;
-    let v = Wide {
-        x: toward_one(i.x, f, s.x),
-        y: toward_one(i.y, f, s.y),
-        z: toward_one(i.z, f, s.z),
-    };
-    Mixed { v, flag: l.flag }
+    Checked {
+        v: Wide {
+            x: toward_one(l.ir.x, f, s.x),
+            y: toward_one(l.ir.y, f, s.y),
+            z: toward_one(l.ir.z, f, s.z),
+        },
+        flag: l.flag,
+    }
 }
 
-fn channel_of(x: i64, sf: bool, lm: bool, over: u32, under: u32, bit: u32, cut: u32) -> Channel
+fn channel_of(x: i64, sf: bool, lm: bool, bits: MacBits, cut: u32) -> Channel
     requires { Mag x (3 * 2 ^ 43) }
-    ensures is { result ≡ record { mac = mac_of sf x; ir = ir_of lm (mac_of sf x); colour = colour_of (mac_of sf x); flag = or (cell_of sf lm over under bit x).flag (limit_flag colour_range (sixteenth (mac_of sf x)) cut) } }
+    ensures is { result ≡ record { mac = mac_of sf x; ir = ir_of lm (mac_of sf x); colour = colour_of (mac_of sf x); flag = or (cell_of sf lm bits.over bits.under bits.ir x).flag (limit_flag colour_range (sixteenth (mac_of sf x)) cut) } }
     ensures small { result.colour ≤ 255 }
 {
-    let m = finish_one(x, sf, lm, over, under, bit);
+    let m = finish_one(x, sf, lm, bits);
     let c = limit_colour(m.mac, cut);
     Channel {
         mac: m.mac,
@@ -87,6 +82,7 @@ fn channel_of(x: i64, sf: bool, lm: bool, over: u32, under: u32, bit: u32, cut: 
     }
 }
 
+#[tactic(auto, unfolding(crate::specs::Shade::colour_word))]
 fn pack(r: u32, g: u32, b: u32, code: u32) -> u32
     requires { (r ≤ 255) × (g ≤ 255) × (b ≤ 255) }
     ensures { result ≡ colour_word r g b code }
@@ -99,22 +95,20 @@ pub fn finish_colour(s: Wide, code: u32, sf: bool, lm: bool) -> Shade
     requires { Bounded (3 * 2 ^ 43) s }
     ensures { result ≡ shade_of sf lm code s }
 {
-    let r = channel_of(s.x, sf, lm, 0x4000_0000, 0x800_0000, 0x100_0000, 0x20_0000);
-    let g = channel_of(s.y, sf, lm, 0x2000_0000, 0x400_0000, 0x80_0000, 0x10_0000);
-    let b = channel_of(s.z, sf, lm, 0x1000_0000, 0x200_0000, 0x40_0000, 0x8_0000);
-    let mac = Long {
-        x: r.mac,
-        y: g.mac,
-        z: b.mac,
-    };
-    let ir = Vector {
-        x: r.ir,
-        y: g.ir,
-        z: b.ir,
-    };
+    let r = channel_of(s.x, sf, lm, MAC1, 0x20_0000);
+    let g = channel_of(s.y, sf, lm, MAC2, 0x10_0000);
+    let b = channel_of(s.z, sf, lm, MAC3, 0x8_0000);
     Shade {
-        mac,
-        ir,
+        mac: Long {
+            x: r.mac,
+            y: g.mac,
+            z: b.mac,
+        },
+        ir: Vector {
+            x: r.ir,
+            y: g.ir,
+            z: b.ir,
+        },
         rgb: pack(r.colour, g.colour, b.colour, code),
         flag: r.flag | (g.flag | b.flag),
     }

@@ -23,6 +23,7 @@ pub fn nclip(c: &mut [u32; 64])
 }
 
 // OTZ for a triangle.
+#[tactic(auto, using(gte_inputs::proofs::Views::inputs_view))]
 pub fn avsz3(c: &mut [u32; 64])
     ensures { view c.new ≡ reads (average_left (average_of (inputs_of (view c.old)).zsf3 ((inputs_of (view c.old)).sz1 + (inputs_of (view c.old)).sz2 + (inputs_of (view c.old)).sz3)) (view c.old)) }
 {
@@ -31,6 +32,7 @@ pub fn avsz3(c: &mut [u32; 64])
 }
 
 // OTZ for a quad.
+#[tactic(auto, using(gte_inputs::proofs::Views::inputs_view))]
 pub fn avsz4(c: &mut [u32; 64])
     ensures { view c.new ≡ reads (average_left (average_of (inputs_of (view c.old)).zsf4 ((inputs_of (view c.old)).sz0 + (inputs_of (view c.old)).sz1 + (inputs_of (view c.old)).sz2 + (inputs_of (view c.old)).sz3)) (view c.old)) }
 {

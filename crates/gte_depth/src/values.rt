@@ -5,27 +5,23 @@ ghost use Rattle.gte_arithmetic.specs.Values.{mac0_flag};
 ghost use Rattle.gte_depth.specs.Depth.{winding_of, average_of};
 
 use gte_arithmetic::limits::limit_depth;
-use gte_arithmetic::mac::{Stored, store_mac0};
-use gte_arithmetic::values::{Average, Corner};
+use gte_arithmetic::mac::store_mac0;
+use gte_arithmetic::values::{Average, Checked, Corner};
 use gte_sums::products::times;
-use words::shifts::shift_12;
+use words::shifts::shift_down;
 
-// Six products, in the order of the formula.
-fn add_products(x0: i16, y0: i16, x1: i16, y1: i16, x2: i16, y2: i16) -> i64
-    ensures { result ≡ x0 *ℤ y1 +ℤ x1 *ℤ y2 +ℤ x2 *ℤ y0 -ℤ x0 *ℤ y2 -ℤ x1 *ℤ y0 -ℤ x2 *ℤ y1 }
-{
-    times(x0, y1) + times(x1, y2) + times(x2, y0) - times(x0, y2) - times(x1, y0) - times(x2, y1)
-}
-
-// NCLIP's value.
+// NCLIP's value: six products, in the order of the formula.
 pub fn winding_sum(a: Corner, b: Corner, c: Corner) -> i64
     ensures { result ≡ winding_of a b c }
 {
-    add_products(a.x, a.y, b.x, b.y, c.x, c.y)
+    times(a.x, b.y) + times(b.x, c.y) + times(c.x, a.y)
+        - times(a.x, c.y)
+        - times(b.x, a.y)
+        - times(c.x, b.y)
 }
 
 // The same, stored as MAC0.
-pub(crate) fn winding(a: Corner, b: Corner, c: Corner) -> Stored
+pub(crate) fn winding(a: Corner, b: Corner, c: Corner) -> Checked<i32>
     ensures { result ≡ record { v = wrap (2 ^ 31) (winding_of a b c); flag = mac0_flag (winding_of a b c) } }
 {
     store_mac0(winding_sum(a, b, c))
@@ -35,7 +31,7 @@ pub(crate) fn winding(a: Corner, b: Corner, c: Corner) -> Stored
 pub fn weighed(zsf: i16, total: u32) -> i64
     ensures { result ≡ zsf *ℤ pos total }
 {
-    (zsf as i64) * (total as i64)
+    i64::from(zsf) * i64::from(total)
 }
 
 // MAC0 and OTZ from it.
@@ -44,7 +40,7 @@ pub(crate) fn average_depth(zsf: i16, total: u32) -> Average
 {
     let x = weighed(zsf, total);
     let m = store_mac0(x);
-    let z = limit_depth(shift_12(x));
+    let z = limit_depth(shift_down::<12>(x));
     Average {
         mac0: m.v,
         otz: z.v,

@@ -6,10 +6,11 @@ ghost use Rattle.std.specs.Prelude.{◌≡◌, ◌*◌, ◌^◌, ◌≤◌, ◌<
 ghost use Rattle.gte_arithmetic.specs.Checks.{raise};
 ghost use Rattle.gte_division.specs.Division.{entry_of, packed, refined, quotient, ratio_of};
 
-use gte_arithmetic::limits::Level;
+use gte_arithmetic::values::Checked;
 
 // The table of first guesses, eight entries to a word, the first one lowest; from entry 256 on they are 0. A `match` becomes a
 // table of the library, where an array would be copied at each call.
+#[tactic(auto, unfolding(crate::specs::Division::packed, crate::specs::Division::entry_of))]
 fn eight_entries(k: u32) -> u64
     ensures { result ≡ packed 8 (k * 8) }
 {
@@ -76,26 +77,27 @@ pub fn ratio(h: u32, sz: u32) -> u32
     ensures small { result < 2 ^ 17 }
 {
     // Counted in 32 bits: the count of 16 bits keeps the upper half of a register, and so waits for the division before.
-    let z = u32::leading_zeros(sz) - 16;
+    let z = sz.leading_zeros() - 16;
     let n = h << z;
     let d = sz << z;
-    let q = ((n as u64) * (reciprocal(d) as u64) + 0x8000) / 0x1_0000;
-    if q < 0x2_0000 { q as u32 } else { 0x1_ffff }
+    let q = (u64::from(n) * u64::from(reciprocal(d)) + 0x8000) / 0x1_0000;
+    q.min(0x1_ffff) as u32
 }
 
 // The perspective quotient, with bit 17. H is unsigned.
-pub fn divide(h: u32, sz: u32) -> Level
+#[tactic(auto, unfolding(crate::specs::Division::ratio_of))]
+pub fn divide(h: u32, sz: u32) -> Checked<u32>
     requires { sz < 65536 }
     ensures is { result ≡ record { v = ratio_of h sz; flag = raise (leb (2 * sz) h) 0x2_0000 } }
     ensures small { result.v < 2 ^ 17 }
 {
     if 2 * sz <= h {
-        Level {
+        Checked {
             v: 0x1_ffff,
             flag: 0x2_0000,
         }
     } else {
-        Level {
+        Checked {
             v: ratio(h, sz),
             flag: 0,
         }

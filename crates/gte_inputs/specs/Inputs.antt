@@ -3,8 +3,7 @@ use Rattle.std.specs.Prelude.{List, [], ◌∷◌, ℕ, zero, suc, ◌+◌, ◌%
 use Rattle.std.specs.Int.{w16, w32}
 use Rattle.std.proofs.Common.{to_z}
 use Rattle.words.specs.Words.{low_signed, high_half}
-use Rattle.gte_arithmetic.specs.declared.values.Vector.{Vector}
-use Rattle.gte_arithmetic.specs.declared.values.Long.{Long}
+use Rattle.gte_arithmetic.specs.Triples.{Vector, Long}
 use Rattle.gte_arithmetic.specs.declared.values.Camera.{Camera}
 use Rattle.gte_arithmetic.specs.declared.values.Corner.{Corner}
 use Rattle.gte_registers.specs.Registers.{reg}

@@ -5,28 +5,21 @@ ghost use Rattle.gte_inputs.specs.Inputs.{matrix_of, inputs_of};
 use words::signed::{high_half, low_half};
 
 // The matrix whose five words begin at register b.
+#[tactic(auto, unfolding(crate::specs::Inputs::matrix_of))]
 fn matrix(c: &[u32; 64], b: usize) -> [[i16; 3]; 3]
     requires { b < 59 }
     ensures { result ≡ matrix_of c.now b }
 {
-    let p = c[b];
-    let q = c[b + 1];
-    let r = c[b + 2];
-    let s = c[b + 3];
-    let t = c[b + 4];
-    let m11 = low_half(p);
-    let m12 = high_half(p);
-    let m13 = low_half(q);
-    let m21 = high_half(q);
-    let m22 = low_half(r);
-    let m23 = high_half(r);
-    let m31 = low_half(s);
-    let m32 = high_half(s);
-    let m33 = low_half(t);
-    [[m11, m12, m13], [m21, m22, m23], [m31, m32, m33]]
+    let (p, q, r, s, t) = (c[b], c[b + 1], c[b + 2], c[b + 3], c[b + 4]);
+    [
+        [low_half(p), high_half(p), low_half(q)],
+        [high_half(q), low_half(r), high_half(r)],
+        [low_half(s), high_half(s), low_half(t)],
+    ]
 }
 
 // RT, which rotates vertices and is MVMVA's matrix 0.
+#[tactic(auto, unfolding(crate::specs::Inputs::inputs_of))]
 pub fn rotation(c: &[u32; 64]) -> [[i16; 3]; 3]
     ensures { result ≡ (inputs_of c.now).rt }
 {
@@ -34,6 +27,7 @@ pub fn rotation(c: &[u32; 64]) -> [[i16; 3]; 3]
 }
 
 // LLM, the directions of the three lights.
+#[tactic(auto, unfolding(crate::specs::Inputs::inputs_of))]
 pub fn light(c: &[u32; 64]) -> [[i16; 3]; 3]
     ensures { result ≡ (inputs_of c.now).llm }
 {
@@ -41,6 +35,7 @@ pub fn light(c: &[u32; 64]) -> [[i16; 3]; 3]
 }
 
 // LCM, the colours of the three lights.
+#[tactic(auto, unfolding(crate::specs::Inputs::inputs_of))]
 pub fn light_colour(c: &[u32; 64]) -> [[i16; 3]; 3]
     ensures { result ≡ (inputs_of c.now).lcm }
 {

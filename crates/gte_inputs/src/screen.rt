@@ -6,6 +6,7 @@ use gte_arithmetic::values::{Camera, Corner};
 use words::signed::{high_half, low_half, to_signed};
 
 // Registers 56 to 60. H is unsigned: the low half, and not what a read returns.
+#[tactic(auto, unfolding(crate::specs::Inputs::inputs_of))]
 pub fn camera(c: &[u32; 64]) -> Camera
     ensures { result ≡ (inputs_of c.now).camera }
 {
@@ -18,6 +19,7 @@ pub fn camera(c: &[u32; 64]) -> Camera
     }
 }
 
+#[tactic(auto, unfolding(crate::specs::Inputs::corner_of))]
 fn corner_at(c: &[u32; 64], b: usize) -> Corner
     requires { b < 64 }
     ensures { result ≡ corner_of c.now b }
@@ -29,6 +31,7 @@ fn corner_at(c: &[u32; 64], b: usize) -> Corner
 }
 
 // SXY0, the oldest point.
+#[tactic(auto, unfolding(crate::specs::Inputs::inputs_of))]
 pub fn corner0(c: &[u32; 64]) -> Corner
     ensures { result ≡ (inputs_of c.now).sxy0 }
 {
@@ -36,6 +39,7 @@ pub fn corner0(c: &[u32; 64]) -> Corner
 }
 
 // SXY1, the point between the two.
+#[tactic(auto, unfolding(crate::specs::Inputs::inputs_of))]
 pub fn corner1(c: &[u32; 64]) -> Corner
     ensures { result ≡ (inputs_of c.now).sxy1 }
 {
@@ -43,6 +47,7 @@ pub fn corner1(c: &[u32; 64]) -> Corner
 }
 
 // SXY2, the newest point.
+#[tactic(auto, unfolding(crate::specs::Inputs::inputs_of))]
 pub fn corner2(c: &[u32; 64]) -> Corner
     ensures { result ≡ (inputs_of c.now).sxy2 }
 {

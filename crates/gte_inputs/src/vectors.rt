@@ -20,6 +20,7 @@ pub fn vector(c: &[u32; 64], k: usize) -> Vector
 }
 
 // IR1..3, the vector that commands hand on to each other.
+#[tactic(auto, unfolding(crate::specs::Inputs::inputs_of))]
 pub fn ir(c: &[u32; 64]) -> Vector
     ensures { result ≡ (inputs_of c.now).ir }
 {
@@ -31,6 +32,7 @@ pub fn ir(c: &[u32; 64]) -> Vector
 }
 
 // Three signed words from register b on.
+#[tactic(auto, unfolding(crate::specs::Inputs::long_of))]
 fn long(c: &[u32; 64], b: usize) -> Long
     requires { b < 62 }
     ensures { result ≡ long_of c.now b }
@@ -43,6 +45,7 @@ fn long(c: &[u32; 64], b: usize) -> Long
 }
 
 // MAC1..3, to which GPL adds.
+#[tactic(auto, unfolding(crate::specs::Inputs::inputs_of))]
 pub fn macs(c: &[u32; 64]) -> Long
     ensures { result ≡ (inputs_of c.now).mac }
 {
@@ -50,6 +53,7 @@ pub fn macs(c: &[u32; 64]) -> Long
 }
 
 // TR, added to a rotated vertex.
+#[tactic(auto, unfolding(crate::specs::Inputs::inputs_of))]
 pub fn translation(c: &[u32; 64]) -> Long
     ensures { result ≡ (inputs_of c.now).tr }
 {
@@ -57,6 +61,7 @@ pub fn translation(c: &[u32; 64]) -> Long
 }
 
 // BK, the light that has no direction.
+#[tactic(auto, unfolding(crate::specs::Inputs::inputs_of))]
 pub fn background(c: &[u32; 64]) -> Long
     ensures { result ≡ (inputs_of c.now).bk }
 {
@@ -64,6 +69,7 @@ pub fn background(c: &[u32; 64]) -> Long
 }
 
 // FC, which depth cueing mixes in.
+#[tactic(auto, unfolding(crate::specs::Inputs::inputs_of))]
 pub fn far_colour(c: &[u32; 64]) -> Long
     ensures { result ≡ (inputs_of c.now).fc }
 {

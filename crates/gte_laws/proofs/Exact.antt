@@ -5,6 +5,7 @@ use mathlib.Core.List.{List, [], ◌∷◌, ◌++◌}
 use Prim.Native.Nat.{ℕ, ◌/◌, ◌%◌, ◌^◌}
 use native.Mathlib.Omega.{arith}
 use borrow.Author.Tests.{eqb-true, eqb-false, eq-eqb}
+use Rattle.std.specs.Prelude.{Ok}
 use lib.Dec.{eqb}
 use lib.IntN.{ℤ}
 use lib.ListN.{length}
@@ -35,8 +36,6 @@ use Rattle.gte_shading.specs.DepthCueing.{dpct_from, dpct_of}
 use Rattle.gte_matrix.specs.Multiply.{far_of, multiplied_of, mvmva_of}
 use Rattle.gte_matrix.specs.SqrOp.{square_of, outer_of}
 use Rattle.gte.specs.Commands.{Command, RTPS, NCLIP, OP, DPCS, INTPL, MVMVA, NCDS, CDP, NCDT, NCCS, CC, NCS, NCT, SQR, DCPL, DPCT, AVSZ3, AVSZ4, RTPT, GPF, GPL, NCCT, unlisted, command_in, sf_of, lm_of, cv_of, leaves, parts_of, checks_of, listed, outcome_of, command_of}
-use Rattle.gte.specs.declared.Outcome.{Outcome}
-use Rattle.gte.specs.declared.Outcome.TheVariants.{Done, Unlisted}
 use Rattle.gte_laws.specs.Exact.{checks_at, some_counted, Demand2}
 
 -- ---- register 63 of what each family of commands leaves
@@ -96,7 +95,7 @@ module _ (sf lm : Bool) (word : ℕ) (i : Inputs) (w : List ℕ) (h : length w �
   unfolding leaves checks_of parts_of vertex_of
   rtpt_checked = vertices_flag w h _ _ _ ∙ ap flag_word (parts _ _ _)
 
-  flags_are : (c : Command) → listed c ≡ Done → Checked c
+  flags_are : (c : Command) → listed c ≡ Ok tt → Checked c
   unfolding leaves checks_of parts_of vertex_of square_of outer_of ncs_of nccs_of ncds_of cc_of cdp_of depth_cued gpf_of gpl_of average_of average_checks flags
   flags_are RTPS e = vertex_flag w h _
   flags_are NCLIP e = winding_flag w h _
@@ -120,13 +119,10 @@ module _ (sf lm : Bool) (word : ℕ) (i : Inputs) (w : List ℕ) (h : length w �
   flags_are GPF e = shade_flag w h _
   flags_are GPL e = shade_flag w h _
   flags_are NCCT e = shades_checked (nccs_of sf lm i 0) (nccs_of sf lm i 1) (nccs_of sf lm i 2) (nccs_checks sf lm i 0) (nccs_checks sf lm i 1) (nccs_checks sf lm i 2) refl refl refl
-  flags_are unlisted e = absurd (other e)
-    where
-      other : ◌≡◌ {A = Outcome} Unlisted Done → ⊥
-      other e = let z : ◌≡◌ {A = ℕ} 0 1 = cc in omega arith
+  flags_are unlisted e = cc
 
 -- register 63 after a listed command
-flag_register : (word : ℕ) (w : List ℕ) → length w ≡ 64 → outcome_of word ≡ Done → reg (command_of word w) 63 ≡ flag_word (flags (checks_at word w))
+flag_register : (word : ℕ) (w : List ℕ) → length w ≡ 64 → outcome_of word ≡ Ok tt → reg (command_of word w) 63 ≡ flag_word (flags (checks_at word w))
 unfolding command_of outcome_of
 flag_register word w h e = rw e (flags_are (sf_of word) (lm_of word) word (inputs_of w) w h (command_in word) e)
 

@@ -18,7 +18,7 @@ use Rattle.words.specs.Words.{low_signed, high_half}
 use Rattle.gte_arithmetic.specs.Checks.{some, counted}
 use Rattle.gte_arithmetic.specs.Values.{mac_of, ir_of, depth_of, screen_of}
 use Rattle.gte_division.specs.Division.{quotient, ratio_of}
-use Rattle.gte_arithmetic.specs.declared.values.Wide.{Wide}
+use Rattle.gte_arithmetic.specs.Triples.{Wide}
 use Rattle.gte_arithmetic.proofs.Flags.{fst}
 use Rattle.gte_perspective.specs.Projection.{far_of, vertex_checks, vertex_of}
 use Rattle.gte_perspective.specs.Perspective.{exact_of, pair_of, screen_checks, on_screen}

@@ -1,12 +1,11 @@
 -- Demand 2 for FLAG: after a listed command each bit of register 63 is set exactly under its named condition (01 "GTE arithmetic",
 -- "COP2 registers").
-use Rattle.std.specs.Prelude.{Bool, true, false, cond, ◌&&◌, ◌||◌, List, [], ◌∷◌, ◌≡◌, ℕ, eqb, length}
+use Rattle.std.specs.Prelude.{Bool, true, false, cond, ◌&&◌, ◌||◌, List, [], ◌∷◌, ◌≡◌, ℕ, eqb, length, Ok}
 use Rattle.words.specs.Words.{bit_at}
 use Rattle.gte_arithmetic.specs.Checks.{Check, fails, counted, some}
 use Rattle.gte_registers.specs.Registers.{reg}
 use Rattle.gte_inputs.specs.Inputs.{inputs_of}
 use Rattle.gte.specs.Commands.{command_in, sf_of, lm_of, checks_of, outcome_of, command_of}
-use Rattle.gte.specs.declared.Outcome.TheVariants.{Done}
 
 -- the checks of a command word over 64 words
 abbrev pub checks_at : ℕ → List ℕ → List Check
@@ -23,4 +22,4 @@ abbrev pub condition : ℕ → List Check → Bool
 condition b cs = cond (eqb 31 b) (some_counted cs) (bit_at b 0x7fff_f000 && some b cs)
 
 abbrev pub Demand2 : Type 0
-Demand2 = (word : ℕ) (w : List ℕ) → length w ≡ 64 → outcome_of word ≡ Done → (b : ℕ) → bit_at b (reg (command_of word w) 63) ≡ condition b (checks_at word w)
+Demand2 = (word : ℕ) (w : List ℕ) → length w ≡ 64 → outcome_of word ≡ Ok tt → (b : ℕ) → bit_at b (reg (command_of word w) 63) ≡ condition b (checks_at word w)

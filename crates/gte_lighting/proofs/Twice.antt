@@ -4,7 +4,7 @@ use mathlib.Core.Bool.{Bool}
 use Prim.Native.Nat.{ℕ}
 use Rattle.gte_arithmetic.specs.Checks.{or, flags}
 use Rattle.gte_line.specs.Line.{line_checks, line_checks_at}
-use Rattle.gte_arithmetic.specs.declared.values.Wide.{Wide}
+use Rattle.gte_arithmetic.specs.Triples.{Wide}
 use Rattle.gte_arithmetic.proofs.Flags.{or_assoc, or_comm, or_left_comm, or_same}
 use Rattle.gte_colour.specs.Shade.{shade_checks}
 use Rattle.gte_lighting.specs.Normals.{last_checks}

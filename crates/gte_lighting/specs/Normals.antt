@@ -4,7 +4,7 @@ use Rattle.std.specs.Prelude.{Bool, List, [], ◌∷◌, ◌++◌, ℕ}
 use Rattle.gte_arithmetic.specs.Checks.{Check}
 use Rattle.gte_arithmetic.specs.Values.{mac_of, ir_check, colour_check}
 use Rattle.gte_line.specs.Line.{line_checks}
-use Rattle.gte_arithmetic.specs.declared.values.Wide.{Wide}
+use Rattle.gte_arithmetic.specs.Triples.{Wide}
 use Rattle.gte_arithmetic.specs.declared.values.Shade.{Shade}
 use Rattle.gte_inputs.specs.Inputs.{Inputs}
 use Rattle.gte_colour.specs.Cueing.{shade_with, plain_end}

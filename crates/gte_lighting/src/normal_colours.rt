@@ -17,11 +17,11 @@ fn nccs_part(c: &[u32; 64], k: usize, sf: bool, lm: bool) -> Shade
     ensures { result ≡ nccs_of sf lm (inputs_of c.now) k }
 {
     let b = normal_line(c, k, sf, lm);
-    let v = b.ir;
-    with_flag(b.flag, finish_colour(tones(c[6], v), c[6], sf, lm))
+    with_flag(b.flag, finish_colour(tones(c[6], b.ir), c[6], sf, lm))
 }
 
 // Normal colour colour: V0 lit, times RGBC.
+#[tactic(auto, using(gte_inputs::proofs::Views::inputs_view))]
 pub fn nccs(c: &mut [u32; 64], sf: bool, lm: bool)
     ensures { view c.new ≡ reads (shade_left (nccs_of sf lm (inputs_of (view c.old)) 0) (view c.old)) }
 {
@@ -30,6 +30,7 @@ pub fn nccs(c: &mut [u32; 64], sf: bool, lm: bool)
 }
 
 // NCCS for V0, V1 and V2.
+#[tactic(auto, using(gte_inputs::proofs::Views::inputs_view))]
 pub fn ncct(c: &mut [u32; 64], sf: bool, lm: bool)
     ensures { view c.new ≡ reads (shades_left (nccs_of sf lm (inputs_of (view c.old)) 0) (nccs_of sf lm (inputs_of (view c.old)) 1) (nccs_of sf lm (inputs_of (view c.old)) 2) (view c.old)) }
 {

@@ -16,11 +16,11 @@ fn ncds_part(c: &[u32; 64], k: usize, sf: bool, lm: bool) -> Shade
     ensures { result ≡ ncds_of sf lm (inputs_of c.now) k }
 {
     let b = normal_line(c, k, sf, lm);
-    let v = b.ir;
-    with_flag(b.flag, cue(c, tones(c[6], v), sf, lm))
+    with_flag(b.flag, cue(c, tones(c[6], b.ir), sf, lm))
 }
 
 // Normal colour depth cue: V0 lit, times RGBC, mixed with the far colour.
+#[tactic(auto, using(gte_inputs::proofs::Views::inputs_view))]
 pub fn ncds(c: &mut [u32; 64], sf: bool, lm: bool)
     ensures { view c.new ≡ reads (shade_left (ncds_of sf lm (inputs_of (view c.old)) 0) (view c.old)) }
 {
@@ -29,6 +29,7 @@ pub fn ncds(c: &mut [u32; 64], sf: bool, lm: bool)
 }
 
 // NCDS for V0, V1 and V2.
+#[tactic(auto, using(gte_inputs::proofs::Views::inputs_view))]
 pub fn ncdt(c: &mut [u32; 64], sf: bool, lm: bool)
     ensures { view c.new ≡ reads (shades_left (ncds_of sf lm (inputs_of (view c.old)) 0) (ncds_of sf lm (inputs_of (view c.old)) 1) (ncds_of sf lm (inputs_of (view c.old)) 2) (view c.old)) }
 {

@@ -17,11 +17,11 @@ fn ncs_part(c: &[u32; 64], k: usize, sf: bool, lm: bool) -> Shade
     ensures { result ≡ ncs_of sf lm (inputs_of c.now) k }
 {
     let a = light_line(c, k, sf, lm);
-    let v = a.ir;
-    with_flag(a.flag, finish_colour(back_sums(c, v), c[6], sf, lm))
+    with_flag(a.flag, finish_colour(back_sums(c, a.ir), c[6], sf, lm))
 }
 
 // Normal colour: V0 lit.
+#[tactic(auto, using(gte_inputs::proofs::Views::inputs_view))]
 pub fn ncs(c: &mut [u32; 64], sf: bool, lm: bool)
     ensures { view c.new ≡ reads (shade_left (ncs_of sf lm (inputs_of (view c.old)) 0) (view c.old)) }
 {
@@ -29,7 +29,9 @@ pub fn ncs(c: &mut [u32; 64], sf: bool, lm: bool)
     leave_shade(c, s);
 }
 
-// NCS for V0, V1 and V2.
+// NCS for V0, V1 and V2. Its three parts are written out, as those of NCCT, NCDT and DPCT are: for a closure that gives a part, the
+// contract of one function for all four would be longer than what it spares.
+#[tactic(auto, using(gte_inputs::proofs::Views::inputs_view))]
 pub fn nct(c: &mut [u32; 64], sf: bool, lm: bool)
     ensures { view c.new ≡ reads (shades_left (ncs_of sf lm (inputs_of (view c.old)) 0) (ncs_of sf lm (inputs_of (view c.old)) 1) (ncs_of sf lm (inputs_of (view c.old)) 2) (view c.old)) }
 {

@@ -2,9 +2,7 @@
 use Rattle.std.specs.Prelude.{Bool, List, [], ◌∷◌, ℕ, ℤ}
 use Rattle.gte_arithmetic.specs.Checks.{or, Check, flags}
 use Rattle.gte_arithmetic.specs.Values.{ir_range, limit_flag, mac_of, ir_of, sum_flag, sum_checks, ir_check}
-use Rattle.gte_arithmetic.specs.declared.values.Vector.{Vector}
-use Rattle.gte_arithmetic.specs.declared.values.Long.{Long}
-use Rattle.gte_arithmetic.specs.declared.values.Wide.{Wide}
+use Rattle.gte_arithmetic.specs.Triples.{Vector, Long, Wide}
 use Rattle.gte_arithmetic.specs.declared.values.Line.{Line}
 use Rattle.gte_line.specs.declared.Cell.{Cell}
 

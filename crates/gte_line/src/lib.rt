@@ -10,7 +10,7 @@ ghost use Rattle.gte_line.specs.Line.{cell_of, line_of};
 
 use gte_arithmetic::limits::{limit_ir, lowest_ir};
 use gte_arithmetic::mac::{shift, store_mac, within};
-use gte_arithmetic::values::{Line, Long, Vector, Wide};
+use gte_arithmetic::values::{Line, Long, MAC1, MAC2, MAC3, MacBits, Vector, Wide};
 
 // One of the three MAC and IR of a line, with the FLAG bits of their tests.
 #[derive(Clone, Copy)]
@@ -21,12 +21,13 @@ pub struct Cell {
 }
 
 // One of the three, with each of its tests.
-fn finish_tested(x: i64, sf: bool, lm: bool, over: u32, under: u32, bit: u32) -> Cell
+#[tactic(auto, unfolding(crate::specs::Line::cell_of, gte_arithmetic::specs::Checks::or))]
+fn finish_tested(x: i64, sf: bool, lm: bool, bits: MacBits) -> Cell
     requires { Mag x (3 * 2 ^ 43) }
-    ensures { result ≡ cell_of sf lm over under bit x }
+    ensures { result ≡ cell_of sf lm bits.over bits.under bits.ir x }
 {
-    let m = store_mac(x, sf, over, under);
-    let i = limit_ir(m.v, lm, bit);
+    let m = store_mac(x, sf, bits.over, bits.under);
+    let i = limit_ir(m.v, lm, bits.ir);
     Cell {
         mac: m.v,
         ir: i.v,
@@ -35,20 +36,20 @@ fn finish_tested(x: i64, sf: bool, lm: bool, over: u32, under: u32, bit: u32) ->
 }
 
 // One of the three. Most values are in range, where one test finds that no bit is set.
-pub fn finish_one(x: i64, sf: bool, lm: bool, over: u32, under: u32, bit: u32) -> Cell
+pub fn finish_one(x: i64, sf: bool, lm: bool, bits: MacBits) -> Cell
     requires { Mag x (3 * 2 ^ 43) }
-    ensures { result ≡ cell_of sf lm over under bit x }
+    ensures { result ≡ cell_of sf lm bits.over bits.under bits.ir x }
 {
     let m = shift(x, sf);
-    let low = lowest_ir(lm);
-    if within(low, 0x7fff, m) {
-        return Cell {
+    if within(lowest_ir(lm), 0x7fff, m) {
+        Cell {
             mac: m as i32,
             ir: m as i16,
             flag: 0,
-        };
+        }
+    } else {
+        finish_tested(x, sf, lm, bits)
     }
-    finish_tested(x, sf, lm, over, under, bit)
 }
 
 // A whole line: three sums, each with its own bits of FLAG.
@@ -56,22 +57,20 @@ pub fn finish(s: Wide, sf: bool, lm: bool) -> Line
     requires { Bounded (3 * 2 ^ 43) s }
     ensures { result ≡ line_of sf lm s }
 {
-    let a = finish_one(s.x, sf, lm, 0x4000_0000, 0x800_0000, 0x100_0000);
-    let b = finish_one(s.y, sf, lm, 0x2000_0000, 0x400_0000, 0x80_0000);
-    let c = finish_one(s.z, sf, lm, 0x1000_0000, 0x200_0000, 0x40_0000);
-    let mac = Long {
-        x: a.mac,
-        y: b.mac,
-        z: c.mac,
-    };
-    let ir = Vector {
-        x: a.ir,
-        y: b.ir,
-        z: c.ir,
-    };
+    let a = finish_one(s.x, sf, lm, MAC1);
+    let b = finish_one(s.y, sf, lm, MAC2);
+    let c = finish_one(s.z, sf, lm, MAC3);
     Line {
-        mac,
-        ir,
-        flag: a.flag | (b.flag | c.flag),
+        mac: Long {
+            x: a.mac,
+            y: b.mac,
+            z: c.mac,
+        },
+        ir: Vector {
+            x: a.ir,
+            y: b.ir,
+            z: c.ir,
+        },
+        flag: a.flag | b.flag | c.flag,
     }
 }

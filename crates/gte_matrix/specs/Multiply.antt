@@ -4,9 +4,7 @@ use Rattle.gte_arithmetic.specs.Checks.{Check, flags}
 use Rattle.gte_arithmetic.specs.Values.{mac_of, sum_checks, ir_check}
 use Rattle.gte_sums.specs.Sums.{entry, no_long, product_of}
 use Rattle.gte_line.specs.Line.{line_with, line_of, line_checks_at}
-use Rattle.gte_arithmetic.specs.declared.values.Vector.{Vector}
-use Rattle.gte_arithmetic.specs.declared.values.Long.{Long}
-use Rattle.gte_arithmetic.specs.declared.values.Wide.{Wide}
+use Rattle.gte_arithmetic.specs.Triples.{Vector, Long, Wide}
 use Rattle.gte_arithmetic.specs.declared.values.Line.{Line}
 use Rattle.gte_inputs.specs.Inputs.{Inputs}
 

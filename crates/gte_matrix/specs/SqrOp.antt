@@ -3,7 +3,7 @@ use Rattle.std.specs.Prelude.{Bool, List, ℤ}
 use Rattle.gte_arithmetic.specs.Checks.{Check}
 use Rattle.gte_sums.specs.Sums.{entry}
 use Rattle.gte_line.specs.Line.{line_with, line_of, line_checks_at}
-use Rattle.gte_arithmetic.specs.declared.values.Vector.{Vector}
+use Rattle.gte_arithmetic.specs.Triples.{Vector}
 use Rattle.gte_arithmetic.specs.declared.values.Line.{Line}
 use Rattle.gte_sums.specs.Products.{squares_of, cross_of}
 use Rattle.gte_inputs.specs.Inputs.{Inputs}

@@ -7,7 +7,7 @@ ghost use Rattle.gte_matrix.specs.Multiply.{odd_matrix, matrix_by, vector_by, lo
 ghost use Rattle.gte_results.specs.Effects.{line_left};
 
 use gte_arithmetic::mac::wrap_44;
-use gte_arithmetic::values::{Line, Long, Vector, Wide};
+use gte_arithmetic::values::{Line, Long, MAC1, MAC2, MAC3, Vector, Wide};
 use gte_inputs::matrices::{light, light_colour, rotation};
 use gte_inputs::scalars::ir0;
 use gte_inputs::vectors::{background, far_colour, ir, translation, vector};
@@ -17,6 +17,7 @@ use gte_sums::products::times;
 use gte_sums::transform::product;
 
 // The matrix of mx = 3: constants, IR0, RT13 and RT22.
+#[tactic(auto, unfolding(crate::specs::Multiply::odd_matrix))]
 fn odd_matrix(m: [[i16; 3]; 3], f: i16) -> [[i16; 3]; 3]
     ensures { result ≡ odd_matrix m f }
 {
@@ -26,6 +27,7 @@ fn odd_matrix(m: [[i16; 3]; 3], f: i16) -> [[i16; 3]; 3]
 }
 
 // RT, LLM, LCM or matrix 3, by mx.
+#[tactic(auto, unfolding(crate::specs::Multiply::matrix_by))]
 pub fn chosen_matrix(c: &[u32; 64], mx: u32) -> [[i16; 3]; 3]
     ensures { result ≡ matrix_by mx (inputs_of c.now) }
 {
@@ -38,6 +40,7 @@ pub fn chosen_matrix(c: &[u32; 64], mx: u32) -> [[i16; 3]; 3]
 }
 
 // V0, V1, V2 or IR, by v.
+#[tactic(auto, unfolding(crate::specs::Multiply::vector_by))]
 pub fn chosen_vector(c: &[u32; 64], v: u32) -> Vector
     ensures { result ≡ vector_by v (inputs_of c.now) }
 {
@@ -50,6 +53,7 @@ pub fn chosen_vector(c: &[u32; 64], v: u32) -> Vector
 }
 
 // TR, BK, FC or zeros, by cv.
+#[tactic(auto, unfolding(crate::specs::Multiply::long_by))]
 pub fn chosen_long(c: &[u32; 64], cv: u32) -> Long
     ensures { result ≡ long_by cv (inputs_of c.now) }
 {
@@ -62,6 +66,7 @@ pub fn chosen_long(c: &[u32; 64], cv: u32) -> Long
 }
 
 // The third product of each row.
+#[tactic(auto, unfolding(crate::specs::Multiply::thirds_of))]
 pub fn thirds(m: [[i16; 3]; 3], v: Vector) -> Wide
     ensures is { result ≡ thirds_of m v }
     ensures small { Bounded (2 ^ 43) result }
@@ -78,9 +83,9 @@ fn sum_flags(s: Wide) -> u32
     requires { Bounded (3 * 2 ^ 43) s }
     ensures { result ≡ sum_flags s }
 {
-    let a = wrap_44(s.x, 0x4000_0000, 0x800_0000);
-    let b = wrap_44(s.y, 0x2000_0000, 0x400_0000);
-    let d = wrap_44(s.z, 0x1000_0000, 0x200_0000);
+    let a = wrap_44(s.x, MAC1.over, MAC1.under);
+    let b = wrap_44(s.y, MAC2.over, MAC2.under);
+    let d = wrap_44(s.z, MAC3.over, MAC3.under);
     a.flag | (b.flag | d.flag)
 }
 
@@ -90,15 +95,13 @@ fn multiply_far(m: [[i16; 3]; 3], t: Long, v: Vector, sf: bool, lm: bool) -> Lin
 {
     let f = sum_flags(product(m, t, v));
     let l = finish(thirds(m, v), sf, lm);
-    let mac = l.mac;
-    let ir = l.ir;
     Line {
-        mac,
-        ir,
         flag: f | l.flag,
+        ..l
     }
 }
 
+#[tactic(auto, unfolding(crate::specs::Multiply::multiplied_of, gte_line::specs::Line::line_of, gte_line::specs::Line::line_checks_at, gte_arithmetic::specs::Checks::flags))]
 fn multiply(m: [[i16; 3]; 3], t: Long, v: Vector, cv: u32, sf: bool, lm: bool) -> Line
     ensures { result ≡ multiplied_of sf lm cv m t v }
 {
@@ -110,6 +113,7 @@ fn multiply(m: [[i16; 3]; 3], t: Long, v: Vector, cv: u32, sf: bool, lm: bool) -
 }
 
 // T·1000h + M.V with the matrix, vector and translation of the command's bits.
+#[tactic(auto, using(gte_inputs::proofs::Views::inputs_view), unfolding(crate::specs::Multiply::mvmva_of))]
 pub fn mvmva(c: &mut [u32; 64], mx: u32, v: u32, cv: u32, sf: bool, lm: bool)
     ensures { view c.new ≡ reads (line_left (mvmva_of sf lm mx v cv (inputs_of (view c.old))) (view c.old)) }
 {

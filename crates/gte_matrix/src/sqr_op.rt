@@ -13,6 +13,7 @@ use gte_results::lines::leave_line;
 use gte_sums::products::{cross, squares};
 
 // The squares of IR1..3.
+#[tactic(auto, using(gte_inputs::proofs::Views::inputs_view), unfolding(crate::specs::SqrOp::square_of, gte_line::specs::Line::line_of, gte_line::specs::Line::line_checks_at, gte_arithmetic::specs::Checks::flags))]
 pub fn sqr(c: &mut [u32; 64], sf: bool, lm: bool)
     ensures { view c.new ≡ reads (line_left (square_of sf lm (inputs_of (view c.old))) (view c.old)) }
 {
@@ -21,6 +22,7 @@ pub fn sqr(c: &mut [u32; 64], sf: bool, lm: bool)
 }
 
 // RT11, RT22 and RT33.
+#[tactic(auto, unfolding(crate::specs::SqrOp::diagonal_of))]
 pub fn diagonal_of(m: [[i16; 3]; 3]) -> Vector
     ensures { result ≡ diagonal_of m }
 {
@@ -32,6 +34,7 @@ pub fn diagonal_of(m: [[i16; 3]; 3]) -> Vector
 }
 
 // The outer product of IR with the diagonal of RT.
+#[tactic(auto, using(gte_inputs::proofs::Views::inputs_view), unfolding(crate::specs::SqrOp::outer_of, gte_line::specs::Line::line_of, gte_line::specs::Line::line_checks_at, gte_arithmetic::specs::Checks::flags))]
 pub fn op(c: &mut [u32; 64], sf: bool, lm: bool)
     ensures { view c.new ≡ reads (line_left (outer_of sf lm (inputs_of (view c.old))) (view c.old)) }
 {

@@ -12,7 +12,7 @@ use Rattle.gte_arithmetic.specs.Checks.{or, raise, flags}
 use Rattle.gte_arithmetic.specs.Values.{depth_of, sum_flag, mac0_flag}
 use Rattle.gte_arithmetic.specs.declared.values.Camera.{Camera}
 use Rattle.gte_arithmetic.specs.declared.values.Vertex.{Vertex}
-use Rattle.gte_arithmetic.specs.declared.values.Wide.{Wide}
+use Rattle.gte_arithmetic.specs.Triples.{Wide}
 use Rattle.gte_arithmetic.proofs.Flags.{or_assoc, or_none}
 use Rattle.gte_division.specs.Division.{quotient, ratio_of}
 use Rattle.gte_division.proofs.Quotients.{ratio_below}

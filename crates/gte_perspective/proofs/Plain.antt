@@ -14,17 +14,13 @@ use Rattle.integers.specs.Clamp.{outside, inside, clamp_in, clamp_clear}
 use Rattle.integers.specs.Parts.{pos_part, neg_part, zarith, Mag, nat_abs_gap, no_lt}
 use Rattle.integers.specs.Wrap.{wrap_fits}
 use Rattle.gte_arithmetic.specs.Values.{ir_of, depth_of, screen_of, factor_of}
-use Rattle.gte_arithmetic.specs.declared.limits.Short.{Short}
+use Rattle.gte_arithmetic.specs.declared.values.Checked.{Checked}
 use Rattle.gte_arithmetic.proofs.Flags.{or_none}
 use Rattle.gte_line.proofs.Plain.{by_4096, by_65536, ir_mag, wrap_none, sum_none, mac0_none, mac_plain}
 use Rattle.gte_perspective.specs.Perspective.{coordinate_of, cue_of}
 use Rattle.gte_perspective.specs.Projection.{far_of, third_of}
 use Rattle.gte_perspective.specs.declared.projection.Third.{Third}
 use Rattle.gte_perspective.specs.declared.screen.Factor.{Factor}
-
--- what a test that fails promises
-pub never : {A : Type 0} → ◌≡◌ {A = Bool} false true → A
-never e = let z : ◌≡◌ {A = ℕ} 0 1 = cc in let b : ⊥ = omega arith in absurd b
 
 -- ---- a number in 0..hi: what the cast to a word asks
 pub level_unsigned : (hi : ℕ) (z : ℤ) → hi < 2 ^ 32 → outside (pos 0) (pos hi) z ≡ false → T (non_neg z) × Fits w32 (nat_abs z)
@@ -35,14 +31,6 @@ level_unsigned hi z l e =
     unsign w32 z k.0 (omega zarith)
 
 -- ---- lines 3 and 4: a depth of 0..7FFFh is stored whole in MAC3, IR3 and SZ3, from a sum far from the ends of 44 bits
-pub depth_below : (z : ℤ) → outside (pos 0) (pos 0x7fff) z ≡ false → nat_abs z < 0x8000
-unfolding pos_part neg_part
-depth_below z e =
-    let k = inside (pos 0) (pos 0x7fff) z e in
-    let l = k.0 in
-    let u = k.1 in
-    omega (zarith, nat_abs_gap z)
-
 far : (x : ℤ) → Mag x 134217728 → far_of x ≡ shr_z x 4096
 unfolding far_of
 far x m = rw (wrap_none x m)
@@ -68,7 +56,7 @@ third_plain x e =
 pub screen_mag : (z : ℤ) → outside (negsuc 0x3ff) (pos 0x3ff) z ≡ false → Mag z 1024
 screen_mag z e = let k = inside (negsuc 0x3ff) (pos 0x3ff) z e in mag_between z (mag_negsuc 0x3ff) (mag_pos 0x3ff) k.0 k.1
 
-pub coordinate_plain : (bit : ℕ) (x : ℤ) → outside (negsuc 0x3ff) (pos 0x3ff) (shr_z x 65536) ≡ false → ◌≡◌ {A = Short} (record { v = shr_z x 65536; flag = 0 }) (coordinate_of x bit)
+pub coordinate_plain : (bit : ℕ) (x : ℤ) → outside (negsuc 0x3ff) (pos 0x3ff) (shr_z x 65536) ≡ false → ◌≡◌ {A = Checked ℤ} (record { v = shr_z x 65536; flag = 0 }) (coordinate_of x bit)
 unfolding screen_of
 coordinate_plain bit x e = rw (clamp_clear (negsuc 0x3ff) (pos 0x3ff) (shr_z x 65536) e, mac0_none x (mag_le (by_65536 x (screen_mag _ e)) (lit≤ tt)), e, or_none 0)
 

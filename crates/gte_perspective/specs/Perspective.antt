@@ -6,7 +6,7 @@ use Rattle.std.proofs.Common.{of_z}
 use Rattle.integers.specs.Wrap.{wrap}
 use Rattle.gte_arithmetic.specs.Checks.{Check, flags, or}
 use Rattle.gte_arithmetic.specs.Values.{screen_range, factor_range, limit_flag, screen_of, factor_of, mac0_flag, mac0_checks, division_check, screen_check, factor_check}
-use Rattle.gte_arithmetic.specs.declared.limits.Short.{Short}
+use Rattle.gte_arithmetic.specs.declared.values.Checked.{Checked}
 use Rattle.gte_arithmetic.specs.declared.values.Camera.{Camera}
 use Rattle.gte_division.specs.Division.{ratio_of}
 use Rattle.gte_perspective.specs.declared.screen.Factor.{Factor}
@@ -21,7 +21,7 @@ unfoldable pub pair_of : ℤ → ℤ → ℕ
 pair_of x y = of_z w16 x + of_z w16 y * 65536
 
 -- what line 5 or 6 gives of its exact value, with bit 14 or 13
-abbrev pub coordinate_of : ℤ → ℕ → Short
+abbrev pub coordinate_of : ℤ → ℕ → Checked ℤ
 coordinate_of x bit = record { v = screen_of (shr_z x 65536); flag = or (mac0_flag x) (limit_flag screen_range (shr_z x 65536) bit) }
 
 -- what line 7 gives of its exact value: the MAC0 that stays, and IR0

@@ -4,7 +4,7 @@ use Rattle.std.specs.Int.Signed.{shr_z}
 use Rattle.integers.specs.Wrap.{wrap}
 use Rattle.gte_arithmetic.specs.Checks.{Check, flags, or}
 use Rattle.gte_arithmetic.specs.Values.{ir_range, depth_range, limit_flag, mac_of, ir_of, depth_of, sum_flag, sum_checks, ir_check, depth_check}
-use Rattle.gte_arithmetic.specs.declared.values.Wide.{Wide}
+use Rattle.gte_arithmetic.specs.Triples.{Wide}
 use Rattle.gte_arithmetic.specs.declared.values.Camera.{Camera}
 use Rattle.gte_arithmetic.specs.declared.values.Vertex.{Vertex}
 use Rattle.gte_line.specs.Line.{cell_of}

@@ -2,7 +2,7 @@
 use Rattle.std.specs.Prelude.{Bool, cond, List, ℕ}
 use Rattle.gte_arithmetic.specs.Checks.{Check}
 use Rattle.gte_sums.specs.Sums.{product_of}
-use Rattle.gte_arithmetic.specs.declared.values.Wide.{Wide}
+use Rattle.gte_arithmetic.specs.Triples.{Wide}
 use Rattle.gte_perspective.specs.Projection.{vertex_of, vertex_checks}
 use Rattle.gte_arithmetic.specs.declared.values.Vertex.{Vertex}
 use Rattle.gte_perspective.specs.declared.projection.Front.{Front}

@@ -15,6 +15,7 @@ use gte_results::vertices::{leave_vertex, leave_vertices};
 use gte_sums::transform::product;
 
 // One vertex, from the registers as they stand.
+#[tactic(auto, unfolding(crate::specs::Vertices::rotated))]
 fn vertex_at(c: &[u32; 64], k: usize, sf: bool) -> Vertex
     requires { k < 3 }
     ensures { result ≡ vertex_at sf (inputs_of c.now) k }
@@ -27,21 +28,19 @@ fn vertex_at(c: &[u32; 64], k: usize, sf: bool) -> Vertex
 fn plain(f: Front, xy: u32, d: Factor) -> Vertex
     ensures { result ≡ plain_of f xy d }
 {
-    let mac = Long {
-        x: f.x as i32,
-        y: f.y as i32,
-        z: f.z as i32,
-    };
-    let ir = Vector {
-        x: f.x,
-        y: f.y,
-        z: f.z,
-    };
     Vertex {
         mac0: d.mac0,
-        mac,
+        mac: Long {
+            x: i32::from(f.x),
+            y: i32::from(f.y),
+            z: i32::from(f.z),
+        },
         ir0: d.ir0,
-        ir,
+        ir: Vector {
+            x: f.x,
+            y: f.y,
+            z: f.z,
+        },
         sz: f.sz,
         xy,
         flag: d.flag,
@@ -56,74 +55,65 @@ fn seen(c: &mut [u32; 64], three: bool) -> bool
     let m = rotation(c);
     let t = translation(c);
     let k = camera(c);
-    let f0 = in_front(product(m, t, vector(c, 0)), k.h);
-    if !f0.clear {
+    let Some(f0) = in_front(product(m, t, vector(c, 0)), k.h) else {
         return false;
-    }
+    };
     if three {
-        let f1 = in_front(product(m, t, vector(c, 1)), k.h);
-        if !f1.clear {
+        let Some(f1) = in_front(product(m, t, vector(c, 1)), k.h) else {
             return false;
-        }
-        let f2 = in_front(product(m, t, vector(c, 2)), k.h);
-        if !f2.clear {
+        };
+        let Some(f2) = in_front(product(m, t, vector(c, 2)), k.h) else {
             return false;
-        }
+        };
         let q0 = ratio(k.h, f0.sz);
         let q1 = ratio(k.h, f1.sz);
         let q2 = ratio(k.h, f2.sz);
         let d = cue_factors(q0, q1, q2, k);
-        let p0 = on_screen(q0, k, f0);
-        if !p0.clear {
+        let Some(p0) = on_screen(q0, k, f0) else {
             return false;
-        }
-        let p1 = on_screen(q1, k, f1);
-        if !p1.clear {
+        };
+        let Some(p1) = on_screen(q1, k, f1) else {
             return false;
-        }
-        let p2 = on_screen(q2, k, f2);
-        if !p2.clear {
+        };
+        let Some(p2) = on_screen(q2, k, f2) else {
             return false;
-        }
+        };
         leave_vertices(
             c,
-            plain(f0, p0.xy, d),
-            plain(f1, p1.xy, d),
-            plain(f2, p2.xy, d),
+            plain(f0, p0, d),
+            plain(f1, p1, d),
+            plain(f2, p2, d),
             d.flag,
         );
     } else {
         let q = ratio(k.h, f0.sz);
-        let p = on_screen(q, k, f0);
-        if !p.clear {
+        let Some(p) = on_screen(q, k, f0) else {
             return false;
-        }
-        leave_vertex(c, plain(f0, p.xy, cue_factor(q, k)));
+        };
+        leave_vertex(c, plain(f0, p, cue_factor(q, k)));
     }
     true
 }
 
 // V0 rotated, translated and projected.
+#[tactic(auto, using(gte_inputs::proofs::Views::inputs_view))]
 pub fn rtps(c: &mut [u32; 64], sf: bool)
     ensures { view c.new ≡ left_of false sf (view c.old) }
 {
-    if sf {
-        if seen(c, false) {
-            return;
-        }
+    if sf && seen(c, false) {
+        return;
     }
     let v = vertex_at(c, 0, sf);
     leave_vertex(c, v);
 }
 
 // V0, V1 and V2. The three parts read nothing that one of them writes.
+#[tactic(auto, using(gte_inputs::proofs::Views::inputs_view), unfolding(gte_results::specs::VertexEffects::vertices_left, gte_arithmetic::specs::Checks::or))]
 pub fn rtpt(c: &mut [u32; 64], sf: bool)
     ensures { view c.new ≡ left_of true sf (view c.old) }
 {
-    if sf {
-        if seen(c, true) {
-            return;
-        }
+    if sf && seen(c, true) {
+        return;
     }
     let p = vertex_at(c, 0, sf);
     let q = vertex_at(c, 1, sf);

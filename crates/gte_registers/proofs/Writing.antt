@@ -1,6 +1,7 @@
 -- A write to the storage is seen as a write to the words that reads return.
 use mathlib.Core.Path.{◌≡◌, refl, sym, ap, ap₂, ◌∙◌}
 use mathlib.Core.Bool.{Bool, true, false, cond}
+use mathlib.Core.Logic.{◌⊎◌, inl, inr}
 use mathlib.Core.List.{List, [], ◌∷◌}
 use Prim.Native.Nat.{ℕ, zero, suc, ◌+◌, ◌%◌, ◌<◌}
 use native.Mathlib.Omega.{arith}
@@ -90,13 +91,24 @@ pub seen_key : (s t : List ℕ) (i k x : ℕ) → length s ≡ 64 → i % 64 ≡
 unfolding view write_of
 seen_key s t i k x h e q = rw (e, q) (write_seen s k x h)
 
--- the number i is none of those, in the form in which code says so
-abbrev pub Other : ℕ → Type 0
-Other i = ((((Unit {0} × (i ≡ 7 → ⊥)) × (i ≡ 15 → ⊥)) × (i ≡ 28 → ⊥)) × (i ≡ 29 → ⊥)) × (i ≡ 31 → ⊥)
+-- OTZ, ORGB and LZCR
+pub seen_ignored : (s : List ℕ) (i x : ℕ) → length s ≡ 64 → (i % 64 ≡ 7) ⊎ ((i % 64 ≡ 29) ⊎ (i % 64 ≡ 31)) → view s ≡ write_of (view s) (i % 64) x
+unfolding written
+seen_ignored s i x h (inl e) = seen_key s s i 7 x h e refl
+seen_ignored s i x h (inr (inl e)) = seen_key s s i 29 x h e refl
+seen_ignored s i x h (inr (inr e)) = seen_key s s i 31 x h e refl
+
+-- the number i is none of those
+pub record Other (i : ℕ) : Type 0 where
+  pub otz : i ≡ 7 → ⊥
+  pub sxyp : i ≡ 15 → ⊥
+  pub irgb : i ≡ 28 → ⊥
+  pub orgb : i ≡ 29 → ⊥
+  pub lzcr : i ≡ 31 → ⊥
 
 other_written : (s : List ℕ) (i x : ℕ) → Other i → written s i x ≡ set s i x
 unfolding written
-other_written s i x n = rw (ne_eqb i 7 n.0.0.0.0.1, ne_eqb i 15 n.0.0.0.1, ne_eqb i 28 n.0.0.1, ne_eqb i 29 n.0.1, ne_eqb i 31 n.1)
+other_written s i x n = rw (ne_eqb i 7 n.otz, ne_eqb i 15 n.sxyp, ne_eqb i 28 n.irgb, ne_eqb i 29 n.orgb, ne_eqb i 31 n.lzcr)
 
 pub seen_rest : (s t : List ℕ) (i x : ℕ) → length s ≡ 64 → Other i → t ≡ set s i x → view t ≡ write_of (view s) i x
 unfolding view write_of

@@ -5,35 +5,22 @@ ghost use Rattle.gte_arithmetic.specs.Checks.{flag_word};
 
 use words::signed::{low_half, sign_extend_16, zero_extend_16};
 
-fn count(s: &[u32]) -> usize
-    ensures { result ≡ length s.now }
-{
-    s.len()
-}
-
 // A lent array's list has as many elements as its type says: a fact for callers, and no code.
 pub fn sized(c: &[u32; 64])
     ensures { length c.now ≡ 64 }
-{
-    count(c);
-}
+{}
 
 // The five-bit field of an IR.
+#[tactic(auto, unfolding(crate::specs::Registers::field, integers::specs::Clamp::clamp))]
 fn field_of(x: u32) -> u32
     ensures is { result ≡ field x }
     ensures small { result < 32 }
 {
-    let v = (low_half(x) as i32) >> 7;
-    if v < 0 {
-        0
-    } else if 31 < v {
-        31
-    } else {
-        v as u32
-    }
+    (i32::from(low_half(x)) >> 7).clamp(0, 31) as u32
 }
 
 // IRGB and ORGB.
+#[tactic(auto, unfolding(crate::specs::Registers::fields_of))]
 fn join_fields(a: u32, b: u32, d: u32) -> u32
     ensures { result ≡ fields_of a b d }
 {
@@ -41,17 +28,19 @@ fn join_fields(a: u32, b: u32, d: u32) -> u32
 }
 
 // LZCR: the leading bits that are equal to the sign.
+#[tactic(auto, using(crate::proofs::Leading::leading_low, crate::proofs::Leading::leading_high))]
 fn leading_bits(x: u32) -> u32
     ensures { result ≡ leading x }
 {
     if x < 0x8000_0000 {
-        u32::leading_zeros(x)
+        x.leading_zeros()
     } else {
-        u32::leading_zeros(0xffff_ffff - x)
+        x.leading_ones()
     }
 }
 
 // FLAG: bits 30..12, and bit 31 where one of 30..23 and 18..13 is set.
+#[tactic(auto, unfolding(gte_arithmetic::specs::Checks::flag_word))]
 fn flag_bits(f: u32) -> u32
     ensures { result ≡ flag_word f }
 {
@@ -68,6 +57,8 @@ pub fn read(c: &[u32; 64], i: usize) -> u32
 {
     let k = i % 64;
     let w = c[k];
+    // An arm for each number: the compiler turns neighbours behind one `|` into comparisons, and the proof then has a case
+    // for each gap between them.
     match k {
         1 => sign_extend_16(w),
         3 => sign_extend_16(w),

@@ -3,9 +3,10 @@ ghost use Rattle.std.specs.Prelude.{◌≡◌, [], ◌∷◌};
 ghost use Rattle.gte_registers.specs.Registers.{view};
 ghost use Rattle.gte_registers.specs.Taken.{taken};
 
-use crate::reads::{read, sized};
+use crate::reads::read;
 
-// Vectors, OTZ and IR as reads return them.
+// Vectors, OTZ and IR as reads return them. Here and below each register is a literal, and no loop over a list: of `read` the
+// compiler then keeps one arm.
 fn take_inputs(g: &[u32; 64], r: &mut [u32; 64])
     ensures { r.new ≡ taken (1 ∷ 3 ∷ 5 ∷ 7 ∷ 8 ∷ 9 ∷ 10 ∷ 11 ∷ []) (view g.now) r.old }
 {
@@ -51,7 +52,6 @@ fn take_controls(g: &[u32; 64], r: &mut [u32; 64])
 pub fn reads_of(g: &[u32; 64]) -> [u32; 64]
     ensures { result ≡ view g.now }
 {
-    sized(g);
     let mut r = *g;
     take_inputs(g, &mut r);
     take_queues(g, &mut r);

@@ -2,20 +2,18 @@
 ghost use Rattle.std.specs.Prelude.{◌≡◌, ◌%◌, ◌<◌, set};
 ghost use Rattle.gte_registers.specs.Registers.{view, write_of, pushed_xy, spread_fields};
 
-use crate::reads::sized;
-
 // The screen queue takes a point.
+#[tactic(auto, unfolding(crate::specs::Registers::pushed_xy))]
 pub fn push_xy(c: &mut [u32; 64], xy: u32)
     ensures { c.new ≡ pushed_xy xy c.old }
 {
-    let xy1 = c[13];
-    let xy2 = c[14];
-    c[12] = xy1;
-    c[13] = xy2;
+    c[12] = c[13];
+    c[13] = c[14];
     c[14] = xy;
 }
 
 // Each IR takes its field by 80h.
+#[tactic(auto, unfolding(crate::specs::Registers::spread_fields))]
 fn spread_fields(c: &mut [u32; 64], x: u32)
     ensures { c.new ≡ spread_fields x c.old }
 {
@@ -35,14 +33,11 @@ fn put(c: &mut [u32; 64], k: usize, x: u32)
 pub fn write(c: &mut [u32; 64], i: usize, x: u32)
     ensures { view c.new ≡ write_of (view c.old) (i % 64) x }
 {
-    sized(c);
     let k = i % 64;
     match k {
-        7 => {}
+        7 | 29 | 31 => {}
         15 => push_xy(c, x),
         28 => spread_fields(c, x),
-        29 => {}
-        31 => {}
         _ => put(c, k, x),
     }
 }

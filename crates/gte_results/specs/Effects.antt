@@ -3,8 +3,7 @@
 use Rattle.std.specs.Prelude.{List, ℕ, set}
 use Rattle.std.specs.Int.{w32}
 use Rattle.std.proofs.Common.{of_z}
-use Rattle.gte_arithmetic.specs.declared.values.Vector.{Vector}
-use Rattle.gte_arithmetic.specs.declared.values.Long.{Long}
+use Rattle.gte_arithmetic.specs.Triples.{Vector, Long}
 use Rattle.gte_arithmetic.specs.declared.values.Line.{Line}
 
 -- MAC1..3 and IR1..3

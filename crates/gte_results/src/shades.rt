@@ -5,15 +5,14 @@ ghost use Rattle.gte_results.specs.ShadeEffects.{pushed_colour, shade_left, shad
 
 use crate::lines::store;
 use gte_arithmetic::values::Shade;
-use gte_registers::reads::sized;
 
+// The queue moves by words named here, as in `push_xy` and `push_z`: one function over a place and a length would be a loop.
+#[tactic(auto, unfolding(crate::specs::ShadeEffects::pushed_colour))]
 fn push_colour(c: &mut [u32; 64], rgb: u32)
     ensures { c.new ≡ pushed_colour rgb c.old }
 {
-    let rgb1 = c[21];
-    let rgb2 = c[22];
-    c[20] = rgb1;
-    c[21] = rgb2;
+    c[20] = c[21];
+    c[21] = c[22];
     c[22] = rgb;
 }
 
@@ -21,11 +20,8 @@ fn push_colour(c: &mut [u32; 64], rgb: u32)
 pub fn leave_shade(c: &mut [u32; 64], s: Shade)
     ensures { view c.new ≡ reads (shade_left s (view c.old)) }
 {
-    sized(c);
-    let m = s.mac;
-    let i = s.ir;
     push_colour(c, s.rgb);
-    store(c, m, i);
+    store(c, s.mac, s.ir);
     c[63] = s.flag;
 }
 
@@ -33,12 +29,9 @@ pub fn leave_shade(c: &mut [u32; 64], s: Shade)
 pub fn leave_shades(c: &mut [u32; 64], p: Shade, q: Shade, r: Shade)
     ensures { view c.new ≡ reads (shades_left p q r (view c.old)) }
 {
-    sized(c);
-    let m = r.mac;
-    let i = r.ir;
     push_colour(c, p.rgb);
     push_colour(c, q.rgb);
     push_colour(c, r.rgb);
-    store(c, m, i);
+    store(c, r.mac, r.ir);
     c[63] = p.flag | (q.flag | r.flag);
 }

@@ -5,23 +5,21 @@ ghost use Rattle.gte_results.specs.VertexEffects.{pushed_z, pushed_vertex, verte
 
 use crate::lines::store;
 use gte_arithmetic::values::Vertex;
-use gte_registers::reads::sized;
 use gte_registers::writes::push_xy;
 use words::signed::to_bits;
 
+#[tactic(auto, unfolding(crate::specs::VertexEffects::pushed_z))]
 fn push_z(c: &mut [u32; 64], z: u32)
     ensures { c.new ≡ pushed_z z c.old }
 {
-    let z1 = c[17];
-    let z2 = c[18];
-    let z3 = c[19];
-    c[16] = z1;
-    c[17] = z2;
-    c[18] = z3;
+    c[16] = c[17];
+    c[17] = c[18];
+    c[18] = c[19];
     c[19] = z;
 }
 
 // The queues take a vertex.
+#[tactic(auto, unfolding(crate::specs::VertexEffects::pushed_vertex))]
 fn push_vertex(c: &mut [u32; 64], v: Vertex)
     ensures { c.new ≡ pushed_vertex v c.old }
 {
@@ -30,14 +28,13 @@ fn push_vertex(c: &mut [u32; 64], v: Vertex)
 }
 
 // The registers that a vertex leaves beside the queues.
+#[tactic(auto, unfolding(crate::specs::VertexEffects::vertex_kept, crate::specs::Effects::flagged))]
 fn keep_vertex(c: &mut [u32; 64], v: Vertex, flag: u32)
     ensures { c.new ≡ vertex_kept v flag c.old }
 {
-    let m = v.mac;
-    let i = v.ir;
     c[24] = to_bits(v.mac0);
     c[8] = v.ir0;
-    store(c, m, i);
+    store(c, v.mac, v.ir);
     c[63] = flag;
 }
 
@@ -45,7 +42,6 @@ fn keep_vertex(c: &mut [u32; 64], v: Vertex, flag: u32)
 pub fn leave_vertex(c: &mut [u32; 64], v: Vertex)
     ensures { view c.new ≡ reads (vertex_left v (view c.old)) }
 {
-    sized(c);
     push_vertex(c, v);
     keep_vertex(c, v, v.flag);
 }
@@ -54,7 +50,6 @@ pub fn leave_vertex(c: &mut [u32; 64], v: Vertex)
 pub fn leave_vertices(c: &mut [u32; 64], p: Vertex, q: Vertex, r: Vertex, flag: u32)
     ensures { view c.new ≡ reads (vertex_kept r flag (pushed_vertex r (pushed_vertex q (pushed_vertex p (view c.old))))) }
 {
-    sized(c);
     push_vertex(c, p);
     push_vertex(c, q);
     push_vertex(c, r);

@@ -1,15 +1,16 @@
 -- Listings: the five stores of a row, and what a list of checks leaves of one.
-use mathlib.Core.Bool.{Bool, true, false, cond, ◌&&◌}
+use mathlib.Core.Bool.{Bool, true, false, cond}
 use mathlib.Core.List.{List, [], ◌∷◌, ◌++◌}
 use mathlib.Core.Path.{◌≡◌, refl, sym, ap, ◌∙◌, subst}
 use Prim.Native.Nat.{ℕ, suc, ◌+◌, ◌<◌, ◌≤◌}
 use native.Mathlib.Omega.{arith}
-use borrow.Author.Tests.{le-leb, lt-leb, ne_eqb, eq-eqb}
-use lib.Dec.{eqb}
+use borrow.Author.Tests.{le-leb, lt-leb}
 use lib.ListN.{length, set}
 use Rattle.gte_arithmetic.specs.Checks.{Check}
 use Rattle.gte_rows.specs.Rows.{Row, row_of, caused, causes, Whole, AllWhole, none, more}
-use Rattle.gte_rows.specs.Listing.{Listing, listing, add_row, add_rows, Adds, Lists}
+use Rattle.gte_rows.specs.Listing.{Listing, listing, add_row, add_rows, Adds, Lists, listed, Most, ListsMost}
+use Rattle.gte_rows.specs.declared.rows.Wanted.{Wanted}
+use Rattle.gte_rows.specs.declared.rows.Rows.{Rows}
 
 at_1 : (a : ℕ) → a + 1 ≡ suc a
 at_1 a = omega arith
@@ -33,20 +34,6 @@ pub row_put : (r : Row) (n : ℕ) (ws : List ℕ)
     → listing (n + 5) (set (set (set (set (set ws n r.bit) (n + 1) r.part) (n + 2) r.line) (n + 3) r.low) (n + 4) r.high) ≡ add_row r (listing n ws)
 unfolding add_row
 row_put r n ws h = rw (le-leb (n + 5) (length ws) h, at_1, at_2, at_3, at_4)
-
--- ---- a check whose bit is not asked for, or that holds
-pub other_bit : (b b' : ℕ) (t : Bool) (s q : Listing) → (b ≡ b' → ⊥) → s ≡ cond (eqb b b' && t) q s
-other_bit b b' t s q h = rw (ne_eqb b b' h)
-
-pub no_fail : (b b' : ℕ) (t : Bool) (s q : Listing) → t ≡ false → s ≡ cond (eqb b b' && t) q s
-no_fail b b' t s q h = rw h (never (eqb b b'))
-  where
-    never : (u : Bool) → s ≡ cond (u && false) q s
-    never true = refl
-    never false = refl
-
-pub failing : (b b' : ℕ) (t : Bool) (p s q : Listing) → b ≡ b' → t ≡ true → p ≡ q → p ≡ cond (eqb b b' && t) q s
-failing b b' t p s q e h k = rw (eq-eqb b b' e, h) k
 
 -- ---- one list of rows after another
 pub rows_++ : (xs ys : List Row) (s : Listing) → add_rows (xs ++ ys) s ≡ add_rows ys (add_rows xs s)
@@ -75,9 +62,16 @@ whole_++ : {xs ys : List Check} → AllWhole xs → AllWhole ys → AllWhole (xs
 whole_++ none k = k
 whole_++ (more h g) k = more h (whole_++ g k)
 
-pub then : {b p : ℕ} {xs ys : List Check} {s t u : Listing} → Lists b p xs s t → Lists b p ys t u → Lists b p (xs ++ ys) s u
-then {b} {p} {xs} {ys} {s} {t} {u} e f =
+both : {b p : ℕ} {xs ys : List Check} {s t u : Listing} → Lists b p xs s t → Lists b p ys t u → Lists b p (xs ++ ys) s u
+both {b} {p} {xs} {ys} {s} {t} {u} e f =
     record { rows = subst (λ (rs : List Row). Adds rs s u) (sym (causes_++ b p xs ys)) (after e.rows f.rows); whole = whole_++ e.whole f.whole }
+
+pub most : {j k : ℕ} {s t u : Rows} → Most j s t → Most k t u → Most (j + k) s u
+most {j} {k} e f = record { count = omega arith; wanted = f.wanted ∙ e.wanted; words = f.words ∙ e.words }
+
+pub then : {j k : ℕ} {xs ys : List Check} {s t u : Rows} → ListsMost j xs s t → ListsMost k ys t u → ListsMost (j + k) (xs ++ ys) s u
+then {j} {k} {xs} {ys} {s} {t} {u} e f =
+    record { lists = both e.lists (subst (λ (w : Wanted). Lists w.bit w.part ys (listed t) (listed u)) e.most.wanted f.lists); most = most e.most f.most }
 
 -- ---- one check
 lone : (t : Bool) (r : Row) (s : Listing) → cond t (add_row r s) s ≡ add_rows (cond t (r ∷ []) []) s
@@ -85,6 +79,11 @@ unfolding add_rows
 lone true r s = refl
 lone false r s = refl
 
-pub one : (b p : ℕ) (c : Check) (s t : Listing) → Whole c.test → t ≡ cond (caused b c) (add_row (row_of p c) s) s → Lists b p (c ∷ []) s t
+pub one : {k : ℕ} (c : Check) (s t : Rows)
+    → Whole c.test
+    → listed t ≡ cond (caused s.wanted.bit c) (add_row (row_of s.wanted.part c) (listed s)) (listed s)
+    → Most k s t
+    → ListsMost k (c ∷ []) s t
 unfolding causes
-one b p c s t h e = record { rows = record { is = e ∙ lone (caused b c) (row_of p c) s }; whole = more h none }
+one c s t h e m =
+    record { lists = record { rows = record { is = e ∙ lone (caused s.wanted.bit c) (row_of s.wanted.part c) (listed s) }; whole = more h none }; most = m }

@@ -1,7 +1,7 @@
-// One row: stored where it fits, and counted in any case.
+// Rows over lent words: each is stored where it fits, and counted in any case.
 ghost use Rattle.std.specs.Prelude.{◌≡◌, cond, ◌&&◌, ◌+◌, ◌≤◌, eqb};
 ghost use Rattle.gte_rows.specs.Rows.{low_of, high_of};
-ghost use Rattle.gte_rows.specs.Listing.{listing, add_row};
+ghost use Rattle.gte_rows.specs.Listing.{listed, row_for, add_row, Most};
 
 use words::shifts::low_word;
 
@@ -12,60 +12,50 @@ pub struct Wanted {
     pub part: u32,
 }
 
-// A row behind the others.
-fn add_row(out: &mut [u32], n: usize, bit: u32, part: u32, line: u32, low: u32, high: u32) -> usize
-    requires { n + 5 ≤ 65536 }
-    ensures is { listing result out.new ≡ add_row (record { bit = bit; part = part; line = line; low = low; high = high }) (listing n out.old) }
-    ensures small { result ≤ n + 5 }
-{
-    if out.len() < n + 5 {
-        return n + 5;
-    }
-    out[n] = bit;
-    out[n + 1] = part;
-    out[n + 2] = line;
-    out[n + 3] = low;
-    out[n + 4] = high;
-    n + 5
+// The lent words, how many of them the rows so far need, and which rows are listed.
+#[derive(Drop)]
+pub struct Rows<'a> {
+    pub out: &'a mut [u32],
+    pub count: usize,
+    pub wanted: Wanted,
 }
 
-// The row of a check that fails, where its bit is wanted.
-pub(crate) fn list_check(
-    out: &mut [u32],
-    n: usize,
-    a: Wanted,
-    bit: u32,
-    line: u32,
-    low: u32,
-    high: u32,
-    fails: bool,
-) -> usize
-    requires { n + 5 ≤ 65536 }
-    ensures is { listing result out.new ≡ cond (eqb bit a.bit && fails) (add_row (record { bit = bit; part = a.part; line = line; low = low; high = high }) (listing n out.old)) (listing n out.old) }
-    ensures small { result ≤ n + 5 }
-{
-    if bit != a.bit {
-        return n;
+impl Rows<'_> {
+    // A row behind the others.
+    fn add_row(&mut self, bit: u32, line: u32, low: u32, high: u32)
+        requires { self.old.count + 5 ≤ 65536 }
+        ensures is { listed self.new ≡ add_row (row_for self.old bit line low high) (listed self.old) }
+        ensures most { Most 5 self.old self.new }
+    {
+        let n = self.count;
+        self.count = n + 5;
+        if self.out.len() < n + 5 {
+            return;
+        }
+        self.out[n] = bit;
+        self.out[n + 1] = self.wanted.part;
+        self.out[n + 2] = line;
+        self.out[n + 3] = low;
+        self.out[n + 4] = high;
     }
-    if !fails {
-        return n;
-    }
-    add_row(out, n, bit, a.part, line, low, high)
-}
 
-// The same with a signed value in two words.
-pub(crate) fn list_value(
-    out: &mut [u32],
-    n: usize,
-    a: Wanted,
-    bit: u32,
-    line: u32,
-    v: i64,
-    fails: bool,
-) -> usize
-    requires { n + 5 ≤ 65536 }
-    ensures is { listing result out.new ≡ cond (eqb bit a.bit && fails) (add_row (record { bit = bit; part = a.part; line = line; low = low_of v; high = high_of v }) (listing n out.old)) (listing n out.old) }
-    ensures small { result ≤ n + 5 }
-{
-    list_check(out, n, a, bit, line, low_word(v), low_word(v >> 32), fails)
+    // The row of a check that fails, where its bit is wanted.
+    pub(crate) fn list_check(&mut self, bit: u32, line: u32, low: u32, high: u32, fails: bool)
+        requires { self.old.count + 5 ≤ 65536 }
+        ensures is { listed self.new ≡ cond (eqb bit self.old.wanted.bit && fails) (add_row (row_for self.old bit line low high) (listed self.old)) (listed self.old) }
+        ensures most { Most 5 self.old self.new }
+    {
+        if bit == self.wanted.bit && fails {
+            self.add_row(bit, line, low, high);
+        }
+    }
+
+    // The same with a signed value in two words.
+    pub(crate) fn list_value(&mut self, bit: u32, line: u32, v: i64, fails: bool)
+        requires { self.old.count + 5 ≤ 65536 }
+        ensures is { listed self.new ≡ cond (eqb bit self.old.wanted.bit && fails) (add_row (row_for self.old bit line (low_of v) (high_of v)) (listed self.old)) (listed self.old) }
+        ensures most { Most 5 self.old self.new }
+    {
+        self.list_check(bit, line, low_word(v), low_word(v >> 32), fails);
+    }
 }

@@ -1,7 +1,7 @@
 -- DCPL, INTPL, DPCS and DPCT: depth cueing alone (001's formulas as fixed in 01). They differ in what they start from. DPCT is its
 -- part at k = 0, 1 and 2.
 use Rattle.std.specs.Prelude.{Bool, ℕ}
-use Rattle.gte_arithmetic.specs.declared.values.Wide.{Wide}
+use Rattle.gte_arithmetic.specs.Triples.{Wide}
 use Rattle.gte_sums.specs.Tones.{tones_of, levels_of, raised_of}
 use Rattle.gte_arithmetic.specs.declared.values.Shade.{Shade}
 use Rattle.gte_inputs.specs.Inputs.{Inputs, queued}

@@ -1,7 +1,7 @@
 -- GPF and GPL: the values of each and the checks that it makes, from what it reads (001's formulas as fixed in 01). Line numbers
 -- are those of 001's formula of the command.
 use Rattle.std.specs.Prelude.{Bool}
-use Rattle.gte_arithmetic.specs.declared.values.Wide.{Wide}
+use Rattle.gte_arithmetic.specs.Triples.{Wide}
 use Rattle.gte_sums.specs.Products.{scaled_of, scaled_from}
 use Rattle.gte_colour.specs.Shade.{shade_checks}
 use Rattle.gte_arithmetic.specs.declared.values.Shade.{Shade}

@@ -3,7 +3,7 @@
 use Rattle.std.specs.Prelude.{Bool, List, ◌++◌}
 use Rattle.gte_arithmetic.specs.Checks.{Check}
 use Rattle.gte_line.specs.Line.{line_checks}
-use Rattle.gte_arithmetic.specs.declared.values.Wide.{Wide}
+use Rattle.gte_arithmetic.specs.Triples.{Wide}
 use Rattle.gte_sums.specs.Tones.{tones_of}
 use Rattle.gte_colour.specs.Shade.{shade_checks}
 use Rattle.gte_arithmetic.specs.declared.values.Shade.{Shade}

@@ -18,19 +18,18 @@ fn cc_part(c: &[u32; 64], sf: bool, lm: bool) -> Shade
     ensures { result ≡ cc_of sf lm (inputs_of c.now) }
 {
     let b = finish(back_sums(c, ir(c)), sf, lm);
-    let v = b.ir;
-    with_flag(b.flag, finish_colour(tones(c[6], v), c[6], sf, lm))
+    with_flag(b.flag, finish_colour(tones(c[6], b.ir), c[6], sf, lm))
 }
 
 fn cdp_part(c: &[u32; 64], sf: bool, lm: bool) -> Shade
     ensures { result ≡ cdp_of sf lm (inputs_of c.now) }
 {
     let b = finish(back_sums(c, ir(c)), sf, lm);
-    let v = b.ir;
-    with_flag(b.flag, cue(c, tones(c[6], v), sf, lm))
+    with_flag(b.flag, cue(c, tones(c[6], b.ir), sf, lm))
 }
 
 // Colour colour: IR as a light, times RGBC.
+#[tactic(auto, using(gte_inputs::proofs::Views::inputs_view))]
 pub fn cc(c: &mut [u32; 64], sf: bool, lm: bool)
     ensures { view c.new ≡ reads (shade_left (cc_of sf lm (inputs_of (view c.old))) (view c.old)) }
 {
@@ -39,6 +38,7 @@ pub fn cc(c: &mut [u32; 64], sf: bool, lm: bool)
 }
 
 // CC, mixed with the far colour.
+#[tactic(auto, using(gte_inputs::proofs::Views::inputs_view))]
 pub fn cdp(c: &mut [u32; 64], sf: bool, lm: bool)
     ensures { view c.new ≡ reads (shade_left (cdp_of sf lm (inputs_of (view c.old))) (view c.old)) }
 {

@@ -20,6 +20,7 @@ fn dpct_part(c: &[u32; 64], k: usize, sf: bool, lm: bool) -> Shade
 }
 
 // RGBC times IR, mixed with the far colour.
+#[tactic(auto, using(gte_inputs::proofs::Views::inputs_view, gte_colour::proofs::CueingLines::code))]
 pub fn dcpl(c: &mut [u32; 64], sf: bool, lm: bool)
     ensures { view c.new ≡ reads (shade_left (dcpl_of sf lm (inputs_of (view c.old))) (view c.old)) }
 {
@@ -29,6 +30,7 @@ pub fn dcpl(c: &mut [u32; 64], sf: bool, lm: bool)
 }
 
 // IR mixed with the far colour.
+#[tactic(auto, using(gte_inputs::proofs::Views::inputs_view))]
 pub fn intpl(c: &mut [u32; 64], sf: bool, lm: bool)
     ensures { view c.new ≡ reads (shade_left (intpl_of sf lm (inputs_of (view c.old))) (view c.old)) }
 {
@@ -37,6 +39,7 @@ pub fn intpl(c: &mut [u32; 64], sf: bool, lm: bool)
 }
 
 // RGBC mixed with the far colour.
+#[tactic(auto, using(gte_inputs::proofs::Views::inputs_view, gte_colour::proofs::CueingLines::code))]
 pub fn dpcs(c: &mut [u32; 64], sf: bool, lm: bool)
     ensures { view c.new ≡ reads (shade_left (dpcs_of sf lm (inputs_of (view c.old))) (view c.old)) }
 {
@@ -46,6 +49,7 @@ pub fn dpcs(c: &mut [u32; 64], sf: bool, lm: bool)
 }
 
 // DPCS of the three colours of the FIFO, each as it stands in RGB0 at its part.
+#[tactic(auto, using(gte_inputs::proofs::Views::inputs_view))]
 pub fn dpct(c: &mut [u32; 64], sf: bool, lm: bool)
     ensures { view c.new ≡ reads (shades_left (dpct_of sf lm (inputs_of (view c.old)) 0) (dpct_of sf lm (inputs_of (view c.old)) 1) (dpct_of sf lm (inputs_of (view c.old)) 2) (view c.old)) }
 {

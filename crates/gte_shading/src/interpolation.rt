@@ -25,6 +25,7 @@ fn gpl_part(c: &[u32; 64], sf: bool, lm: bool) -> Shade
 }
 
 // IR times IR0.
+#[tactic(auto, using(gte_inputs::proofs::Views::inputs_view))]
 pub fn gpf(c: &mut [u32; 64], sf: bool, lm: bool)
     ensures { view c.new ≡ reads (shade_left (gpf_of sf lm (inputs_of (view c.old))) (view c.old)) }
 {
@@ -33,6 +34,7 @@ pub fn gpf(c: &mut [u32; 64], sf: bool, lm: bool)
 }
 
 // IR times IR0, added to the MAC that stands.
+#[tactic(auto, using(gte_inputs::proofs::Views::inputs_view))]
 pub fn gpl(c: &mut [u32; 64], sf: bool, lm: bool)
     ensures { view c.new ≡ reads (shade_left (gpl_of sf lm (inputs_of (view c.old))) (view c.old)) }
 {

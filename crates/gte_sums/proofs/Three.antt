@@ -9,7 +9,7 @@ use mir.Facts.{to_z-of_z}
 use Rattle.integers.specs.Parts.{Mag}
 use Rattle.integers.specs.Bound.{fit, mag_le}
 use Rattle.gte_sums.specs.Sums.{Bounded}
-use Rattle.gte_arithmetic.specs.declared.values.Wide.{Wide}
+use Rattle.gte_arithmetic.specs.Triples.{Wide}
 
 -- what is read back from the bits of three numbers
 abbrev pub read : ℤ → ℤ → ℤ → Wide

@@ -6,8 +6,5 @@ use mir.Syntax.{Width, w64}
 use mir.Val.{SFits, hbits, to_z, of_z}
 use mir.Facts.{to_z-of_z, sfits_widen}
 
-pub widens : {w : Width} {z : ℤ} → T (leb (hbits w) (hbits w64)) → SFits w z → SFits w64 (to_z w (of_z w z))
-widens t f = rw (to_z-of_z f) (sfits_widen t f)
-
 pub widened : {w : Width} {z : ℤ} → T (leb (hbits w) (hbits w64)) → SFits w z → to_z w64 (of_z w64 (to_z w (of_z w z))) ≡ z
 widened t f = rw (to_z-of_z f) (to_z-of_z {w = w64} (sfits_widen t f))

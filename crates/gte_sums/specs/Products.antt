@@ -1,9 +1,7 @@
 -- The products from which GPF, GPL, SQR and OP start: what stands in 001's lines before MAC is stored.
-use Rattle.std.specs.Prelude.{Bool, ◌*◌, ℤ, pos, ◌+ℤ◌, ◌-ℤ◌, ◌*ℤ◌}
+use Rattle.std.specs.Prelude.{Bool, ℤ, pos, ◌+ℤ◌, ◌-ℤ◌, ◌*ℤ◌}
 use Rattle.gte_arithmetic.specs.Values.{scale}
-use Rattle.gte_arithmetic.specs.declared.values.Vector.{Vector}
-use Rattle.gte_arithmetic.specs.declared.values.Long.{Long}
-use Rattle.gte_arithmetic.specs.declared.values.Wide.{Wide}
+use Rattle.gte_arithmetic.specs.Triples.{Vector, Long, Wide}
 
 -- [IR1, IR2, IR3] · IR0, for GPF
 unfoldable pub scaled_of : Vector → ℤ → Wide

@@ -1,9 +1,7 @@
 -- Exact sums: a translation by 1000h plus a matrix times a vector. The three matrices are three rows of three.
 use Rattle.std.specs.Prelude.{List, [], ℕ, ℤ, pos, ◌+ℤ◌, ◌*ℤ◌, get_or}
 use Rattle.integers.specs.Parts.{Mag}
-use Rattle.gte_arithmetic.specs.declared.values.Vector.{Vector}
-use Rattle.gte_arithmetic.specs.declared.values.Long.{Long}
-use Rattle.gte_arithmetic.specs.declared.values.Wide.{Wide}
+use Rattle.gte_arithmetic.specs.Triples.{Vector, Long, Wide}
 
 -- the entry in row i and column j, both from 0
 abbrev pub entry : List (List ℤ) → ℕ → ℕ → ℤ

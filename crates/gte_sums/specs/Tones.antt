@@ -1,7 +1,6 @@
 -- The exact values from which the colour commands start: what stands in 001's lines before MAC is stored.
 use Rattle.std.specs.Prelude.{ℕ, ◌*◌, ◌/◌, ◌%◌, pos, ◌*ℤ◌}
-use Rattle.gte_arithmetic.specs.declared.values.Vector.{Vector}
-use Rattle.gte_arithmetic.specs.declared.values.Wide.{Wide}
+use Rattle.gte_arithmetic.specs.Triples.{Vector, Wide}
 
 -- R, G and B of a colour word
 abbrev pub red : ℕ → ℕ

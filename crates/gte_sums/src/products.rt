@@ -12,10 +12,11 @@ pub fn times(a: i16, b: i16) -> i64
     ensures is { result ≡ a *ℤ b }
     ensures small { Mag result (2 ^ 30 + 1) }
 {
-    (a as i64) * (b as i64)
+    i64::from(a) * i64::from(b)
 }
 
 // IR.IR0 (GPF).
+#[tactic(auto, unfolding(crate::specs::Products::scaled_of))]
 pub fn scaled(i: Vector, f: i16) -> Wide
     ensures is { result ≡ scaled_of i f }
     ensures small { Bounded (3 * 2 ^ 43) result }
@@ -32,14 +33,13 @@ fn times_from(a: i16, b: i16, m: i32, sf: bool) -> i64
     ensures is { result ≡ a *ℤ b +ℤ m *ℤ pos (scale sf) }
     ensures small { Mag result (3 * 2 ^ 43) }
 {
-    if sf {
-        times(a, b) + (m as i64) * 4096
-    } else {
-        times(a, b) + (m as i64)
-    }
+    let p = times(a, b);
+    let m = i64::from(m);
+    if sf { p + m * 4096 } else { p + m }
 }
 
 // IR.IR0 plus the stored MAC, shifted back up by 12·sf (GPL).
+#[tactic(auto, unfolding(crate::specs::Products::scaled_from))]
 pub fn scaled_from(i: Vector, f: i16, m: Long, sf: bool) -> Wide
     ensures is { result ≡ scaled_from i f m sf }
     ensures small { Bounded (3 * 2 ^ 43) result }
@@ -52,6 +52,7 @@ pub fn scaled_from(i: Vector, f: i16, m: Long, sf: bool) -> Wide
 }
 
 // IR.IR (SQR).
+#[tactic(auto, unfolding(crate::specs::Products::squares_of))]
 pub fn squares(i: Vector) -> Wide
     ensures is { result ≡ squares_of i }
     ensures small { Bounded (3 * 2 ^ 43) result }
@@ -72,6 +73,7 @@ fn times_less(a: i16, b: i16, c: i16, d: i16) -> i64
 }
 
 // The outer product of IR with D (OP).
+#[tactic(auto, unfolding(crate::specs::Products::cross_of))]
 pub fn cross(i: Vector, d: Vector) -> Wide
     ensures is { result ≡ cross_of i d }
     ensures small { Bounded (3 * 2 ^ 43) result }

@@ -7,55 +7,58 @@ ghost use Rattle.gte_sums.specs.Tones.{tones_of, levels_of, raised_of};
 use gte_arithmetic::values::{Vector, Wide};
 
 // A colour byte times IR, by 16.
-fn tone(r: u32, ir: i16) -> i64
-    requires { r < 256 }
+fn tone(r: u8, ir: i16) -> i64
     ensures is { result ≡ pos r *ℤ ir *ℤ pos 16 }
     ensures small { Mag result (2 ^ 28) }
 {
-    (r as i64) * (ir as i64) * 16
+    i64::from(r) * i64::from(ir) * 16
 }
 
 // R.IR1, G.IR2 and B.IR3, by 16.
+#[tactic(auto, unfolding(crate::specs::Tones::tones_of))]
 pub fn tones(rgb: u32, i: Vector) -> Wide
     ensures is { result ≡ tones_of rgb i }
     ensures small { Bounded (2 ^ 28) result }
 {
+    let [r, g, b, _] = rgb.to_le_bytes();
     Wide {
-        x: tone(rgb % 256, i.x),
-        y: tone(rgb / 256 % 256, i.y),
-        z: tone(rgb / 65536 % 256, i.z),
+        x: tone(r, i.x),
+        y: tone(g, i.y),
+        z: tone(b, i.z),
     }
 }
 
 // A colour byte by 65,536.
-fn level(r: u32) -> i64
-    requires { r < 256 }
+fn level(r: u8) -> i64
     ensures is { result ≡ pos (r * 65536) }
     ensures small { Mag result (2 ^ 28) }
 {
-    (r * 65536) as i64
+    i64::from(r) * 65536
 }
 
 // R, G and B by 10000h (DPCS, DPCT).
+#[tactic(auto, unfolding(crate::specs::Tones::levels_of))]
 pub fn levels(rgb: u32) -> Wide
     ensures is { result ≡ levels_of rgb }
     ensures small { Bounded (2 ^ 28) result }
 {
+    let [r, g, b, _] = rgb.to_le_bytes();
     Wide {
-        x: level(rgb % 256),
-        y: level(rgb / 256 % 256),
-        z: level(rgb / 65536 % 256),
+        x: level(r),
+        y: level(g),
+        z: level(b),
     }
 }
 
 // IR by 1000h (INTPL).
+#[tactic(auto, unfolding(crate::specs::Tones::raised_of))]
 pub fn raised(i: Vector) -> Wide
     ensures is { result ≡ raised_of i }
     ensures small { Bounded (2 ^ 28) result }
 {
     Wide {
-        x: (i.x as i64) * 4096,
-        y: (i.y as i64) * 4096,
-        z: (i.z as i64) * 4096,
+        x: i64::from(i.x) * 4096,
+        y: i64::from(i.y) * 4096,
+        z: i64::from(i.z) * 4096,
     }
 }

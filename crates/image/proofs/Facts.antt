@@ -6,9 +6,9 @@ use mathlib.Core.Path.{◌≡◌, refl}
 use lib.Dec.{eqb, leb}
 use lib.ListN.{get_or}
 use borrow.Author.Tests.{eqb-true, eq-eqb, leb-true, le-leb}
+use Rattle.std.proofs.lemmas.Slice.Eq.{bytes_eq-Decides}
 use Rattle.gte_registers.specs.Registers.{reads, view, WellFormed}
 use Rattle.image.specs.Formed.{only, implies, pending_formed, system_formed, control_formed, geometry_formed, formed}
-use Rattle.image.proofs.Comparing.{same_is, is_same}
 
 -- ---- the test, taken apart: r are words 0..31, w words 32..43, g words 44..107
 pub record Formed (r w g : List ℕ) : Type 0 where
@@ -43,7 +43,7 @@ formed_in r w g h =
       last = eqb-true _ 0 t.0;
       sr = u.0;
       cause = u.1;
-      geometry = same_is (reads g) g b.1;
+      geometry = (bytes_eq-Decides (reads g) g).0 b.1;
     }
 
 implying : (x v : ℕ) → (x ≡ 0 → v ≡ 0) → implies (eqb x 0) (eqb v 0) ≡ true
@@ -55,7 +55,7 @@ implying x v f = by_test (eqb x 0) refl where
 pub formed_out : (r w g : List ℕ) → Formed r w g → formed r w g ≡ true
 unfolding formed control_formed pending_formed system_formed geometry_formed
 formed_out r w g f =
-    rw (eq-eqb _ _ f.zero, le-leb _ _ f.register, implying _ _ f.value, le-leb _ _ f.slot, eq-eqb _ _ f.last, f.sr, f.cause, f.geometry) (is_same g)
+    rw (eq-eqb _ _ f.zero, le-leb _ _ f.register, implying _ _ f.value, le-leb _ _ f.slot, eq-eqb _ _ f.last, f.sr, f.cause) ((bytes_eq-Decides (reads g) g).1 f.geometry)
 
 -- COP2 words that are well formed are what reads return of them
 pub formed_view : (r w g : List ℕ) → formed r w g ≡ true → view g ≡ g

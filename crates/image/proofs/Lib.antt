@@ -1,4 +1,3 @@
 pub mod Whole
-mod Comparing
 pub mod Facts
 pub mod Refusals

@@ -1,9 +1,9 @@
 -- What a call that is not refused has passed, of any list of tests and of the run's.
 use Prim.Native.Nat.{ℕ, ◌≤◌}
 use native.Mathlib.Omega.{arith}
-use mathlib.Core.Bool.{Bool, true, false, cond, not, ◌&&◌, and-eq-true_iff}
+use mathlib.Core.Bool.{Bool, true, false, cond, ◌&&◌, and-eq-true_iff}
 use mathlib.Core.List.{List, [], ◌∷◌, ◌++◌}
-use mathlib.Core.Path.{◌≡◌, refl, sym, ap}
+use mathlib.Core.Path.{◌≡◌, refl, sym}
 use lib.Dec.{eqb, leb}
 use lib.ListN.{length, replicate}
 use borrow.Author.Tests.{eqb-true, leb-true, eq-eqb, ne_eqb, le-leb}
@@ -12,9 +12,8 @@ use Rattle.memory.specs.Memory.{Memory, MemoryOk}
 use Rattle.cpu_state.specs.State.{state}
 use Rattle.cpu_state.specs.declared.control.Control.{Control}
 use Rattle.image.specs.Image.{image_length, registers_in, control_in, geometry_in, control_of, machine_of}
-use Rattle.image.specs.Formed.{formed, well_formed}
-use Rattle.image.specs.Refusals.{most_steps, Test, ◌else◌, first_of, image_tests, lent_tests, refusal_of, image_refusal, refusal_after, words_or, read_of}
-use Rattle.image.specs.declared.admission.Read.{Read}
+use Rattle.image.specs.Formed.{well_formed}
+use Rattle.image.specs.Refusals.{most_steps, Test, ◌else◌, first_of, image_tests, lent_tests, refusal_of, image_refusal, refusal_after, words_or}
 use Rattle.image.proofs.Facts.{formed_view}
 
 -- ---- of any tests: all pass
@@ -49,7 +48,7 @@ unfolding first_of
 none_fails [] p = refl
 none_fails ((ok else code) ∷ ts) p = rw p.0 (none_fails ts p.1)
 
-at_most : (most : ℕ) (ts : List Test) → coded most ts ≡ true → first_of ts ≤ most
+pub at_most : (most : ℕ) (ts : List Test) → coded most ts ≡ true → first_of ts ≤ most
 unfolding first_of
 at_most most [] c = omega arith
 at_most most ((true else code) ∷ ts) c = at_most most ts (codes most code ts c).rest
@@ -62,15 +61,6 @@ first_then most [] us c = refl
 first_then most ((true else code) ∷ ts) us c = first_then most ts us (codes most code ts c).rest
 first_then most ((false else code) ∷ ts) us c =
     let n = (codes most code ts c).least in rw (ne_eqb code 0 (λ e. omega arith))
-
--- ---- a test that code makes by its negation
-pub failed : (b : Bool) → not b ≡ true → b ≡ false
-failed true h = sym h
-failed false h = refl
-
-pub held : (b : Bool) → not b ≡ false → b ≡ true
-held true h = refl
-held false h = sym h
 
 -- ---- of a call of the run
 pub record Passed (i : List ℕ) (m : Memory) (count : ℕ) : Type 0 where
@@ -107,44 +97,13 @@ unfolding refusal_of
 code_small code i m count e = rw e (at_most 6 (image_tests i (lent_tests m count)) refl)
 
 -- ---- the machine that was read, where the image is accepted
-machine_read : (i : List ℕ) (m : Memory) → image_refusal i ≡ 0 → state (read_of i).control (read_of i).registers (view (read_of i).geometry) m ≡ machine_of i m
-unfolding image_refusal read_of
-machine_read i m h =
+pub machine_read : (i : List ℕ) (m : Memory) (c : Control) (r g : List ℕ) → c ≡ control_of (words_or i (control_in i) (replicate 12 0)) → r ≡ words_or i (registers_in i) (replicate 32 0) → g ≡ words_or i (geometry_in i) (replicate 64 0) → image_refusal i ≡ 0 → state c r (view g) m ≡ machine_of i m
+unfolding image_refusal
+machine_read i m c r g ce re ge h =
     let p = all_pass 2 (image_tests i []) refl h in
-    rw (p.0, formed_view (registers_in i) (control_in i) (geometry_in i) p.1.0)
-
--- ---- the same of an answer that is what was read
-pub code_of_lem : (r : Read) (m : List ℕ) → r ≡ read_of m → r.code ≡ image_refusal m
-unfolding read_of
-code_of_lem r m e = ap (λ (x : Read). x.code) e
-
-pub machine_of_lem : (r : Read) (i : List ℕ) (m : Memory) → r ≡ read_of i → image_refusal i ≡ 0 → state r.control r.registers (view r.geometry) m ≡ machine_of i m
-machine_of_lem r i m e z = rw e (machine_read i m z)
+    rw (ce, re, ge, p.0, formed_view (registers_in i) (control_in i) (geometry_in i) p.1.0)
 
 -- ---- words that were read, where the image is accepted
 pub words_of : (m x ws other : List ℕ) → x ≡ words_or m ws other → image_refusal m ≡ 0 → x ≡ ws
 unfolding image_refusal
 words_of m x ws other e h = let p = all_pass 2 (image_tests m []) refl h in rw p.0 at e
-
--- ---- what the code reads is what is read: of an image of another length, and of one of its own
-pub refused_length : (m : List ℕ) → (length m ≡ image_length → ⊥) → 1 ≡ image_refusal m
-unfolding image_refusal first_of
-refused_length m h = rw (ne_eqb (length m) image_length h)
-
-pub words_kept : (m ws other : List ℕ) → (length m ≡ image_length → ⊥) → other ≡ words_or m ws other
-words_kept m ws other h = rw (ne_eqb (length m) image_length h)
-
-pub words_read : (m x ws other : List ℕ) → length m ≡ image_length → x ≡ ws → x ≡ words_or m ws other
-words_read m x ws other long e = rw (eq-eqb (length m) image_length long) e
-
-pub formed_code : (m r w g : List ℕ) (b : Bool) → length m ≡ image_length → r ≡ registers_in m → w ≡ control_in m → g ≡ geometry_in m → formed r w g ≡ b → cond b 0 2 ≡ image_refusal m
-unfolding image_refusal first_of
-formed_code m r w g b long p q u f = rw (← f, p, q, u, eq-eqb (length m) image_length long)
-
-pub read_other : (m : List ℕ) (c : Control) → (length m ≡ image_length → ⊥) → c ≡ control_of (replicate 12 0) → ◌≡◌ {A = Read} (record { code = 1; control = c; registers = replicate 32 0; geometry = replicate 64 0 }) (read_of m)
-unfolding read_of image_refusal first_of
-read_other m c h e = rw (ne_eqb (length m) image_length h, e)
-
-pub read_whole : (m r w g : List ℕ) (c : Control) (b : Bool) → length m ≡ image_length → r ≡ registers_in m → w ≡ control_in m → g ≡ geometry_in m → c ≡ control_of w → formed r w g ≡ b → ◌≡◌ {A = Read} (record { code = cond b 0 2; control = c; registers = r; geometry = g }) (read_of m)
-unfolding read_of image_refusal first_of
-read_whole m r w g c b long p q u e f = rw (← f, e, p, q, u, eq-eqb (length m) image_length long)

@@ -1,5 +1,6 @@
 -- The well-formed image (01 "The machine image").
-use Rattle.std.specs.Prelude.{Bool, true, false, cond, ◌&&◌, List, [], ◌∷◌, ℕ, eqb, leb, get_or}
+use Rattle.std.specs.Prelude.{Bool, true, cond, ◌&&◌, List, ℕ, eqb, leb, get_or}
+use Rattle.std.specs.Cmp.Lexicographic.{pointwise}
 use Rattle.std.specs.Int.Bits.{bit_and}
 use Rattle.gte_registers.specs.Registers.{reads}
 use Rattle.image.specs.Image.{registers_in, control_in, geometry_in}
@@ -10,13 +11,6 @@ only mask x = eqb (bit_and x mask) x
 
 abbrev pub implies : Bool → Bool → Bool
 implies a b = cond a b true
-
--- two rows of words are the same
-unfoldable pub same : List ℕ → List ℕ → Bool
-same [] [] = true
-same [] (y ∷ ys) = false
-same (x ∷ xs) [] = false
-same (x ∷ xs) (y ∷ ys) = eqb x y && same xs ys
 
 -- word 36 is at most 31, and word 37 is 0 if word 36 is
 unfoldable pub pending_formed : ℕ → ℕ → Bool
@@ -33,7 +27,7 @@ control_formed w =
 
 -- every COP2 word equals what a read of that register returns
 unfoldable pub geometry_formed : List ℕ → Bool
-geometry_formed w = same (reads w) w
+geometry_formed w = pointwise eqb (reads w) w
 
 -- word 0 is 0, and the rest
 unfoldable pub formed : List ℕ → List ℕ → List ℕ → Bool

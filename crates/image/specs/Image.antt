@@ -1,5 +1,5 @@
 -- The machine image (01 "The machine image"): 108 little-endian words, 432 bytes.
-use Rattle.std.specs.Prelude.{List, [], ◌∷◌, ◌++◌, ℕ, ◌+◌, get_or}
+use Rattle.std.specs.Prelude.{List, [], ◌∷◌, ◌++◌, ℕ, get_or}
 use Rattle.byte_order.specs.Bytes.{words_at, bytes_of}
 use Rattle.memory.specs.Memory.{Memory}
 use Rattle.cpu_state.specs.declared.control.Control.{Control}

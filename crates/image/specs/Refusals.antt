@@ -1,10 +1,9 @@
 -- Which calls are refused, and what is read of an image (01 "The run and its numbers"; code 6 is of 02, Ticket 1).
-use Rattle.std.specs.Prelude.{Bool, cond, List, [], ◌∷◌, ℕ, eqb, leb, length, replicate}
+use Rattle.std.specs.Prelude.{Bool, cond, List, [], ◌∷◌, ℕ, eqb, leb, length}
 use Rattle.memory.specs.Addresses.{ram_length, pad_length}
 use Rattle.memory.specs.Memory.{Memory}
-use Rattle.image.specs.Image.{image_length, registers_in, control_in, geometry_in, control_of}
+use Rattle.image.specs.Image.{image_length}
 use Rattle.image.specs.Formed.{well_formed}
-use Rattle.image.specs.declared.admission.Read.{Read}
 
 -- what a call has to pass, and the code of one that does not
 infix 20 ◌else◌
@@ -46,14 +45,3 @@ refusal_after code m count = cond (eqb code 0) (first_of (lent_tests m count)) c
 -- words of an image, or others where it has not the length of an image
 abbrev pub words_or : List ℕ → List ℕ → List ℕ → List ℕ
 words_or m ws other = cond (eqb (length m) image_length) ws other
-
--- what is read of an image: its words or zeros, and why it is refused
-
-unfoldable pub read_of : List ℕ → Read
-read_of m =
-    record {
-      code = image_refusal m;
-      control = control_of (words_or m (control_in m) (replicate 12 0));
-      registers = words_or m (registers_in m) (replicate 32 0);
-      geometry = words_or m (geometry_in m) (replicate 64 0);
-    }

@@ -37,12 +37,19 @@ pub(crate) fn control_from(w: &[u32; 12]) -> Control
 fn control_words(c: Control) -> [u32; 12]
     ensures { result ≡ control_words c }
 {
-    let f = c.flow;
-    let p = c.pending;
-    let s = c.system;
-    let h = c.product;
     [
-        h.hi, h.lo, f.pc, f.next, p.register, p.value, f.slot, s.sr, s.cause, s.epc, s.badv, 0,
+        c.product.hi,
+        c.product.lo,
+        c.flow.pc,
+        c.flow.next,
+        c.pending.register,
+        c.pending.value,
+        c.flow.slot,
+        c.system.sr,
+        c.system.cause,
+        c.system.epc,
+        c.system.badv,
+        0,
     ]
 }
 
@@ -52,8 +59,6 @@ pub fn write_image(m: &mut [u8], c: Control, registers: &[u32; 32], g: &[u32; 64
     ensures { m.new ≡ bytes_of (registers.now ++ (control_words c ++ view g.now)) }
 {
     write_words(m, 0, registers);
-    let w = control_words(c);
-    write_words(m, 128, &w);
-    let r = reads_of(g);
-    write_words(m, 176, &r);
+    write_words(m, 128, &control_words(c));
+    write_words(m, 176, &reads_of(g));
 }

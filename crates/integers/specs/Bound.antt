@@ -1,6 +1,6 @@
 -- Bounds on magnitudes. `Mag z n` says -n ≤ z < n, and goes through sums, products, shifts and divisions with a
 -- numeral that computes, so that no overflow needs `omega`:
---     fit w64 (mag-add (mag-mul (arg w16 f) (arg w16 g)) (mag-scale 4096 tt (arg w32 h))) tt
+--     fit w64 (mag_add (mag_mul (arg w16 f) (arg w16 g)) (mag_scale 4096 tt (arg w32 h))) tt
 use Rattle.std.specs.Prelude.{◌≡◌, ℕ, zero, suc, ◌+◌, ◌*◌, ◌/◌, ◌^◌, ◌<◌, ◌≤◌, ℤ, pos, negsuc, neg_ℤ, ◌+ℤ◌, ◌-ℤ◌, ◌*ℤ◌, ◌≤ℤ◌, T, leb, ltb}
 use Rattle.std.proofs.Common.{mul-le-mul, mul-le-mul_right, mul-lt-mul_of_pos_right, one-mul, le_trans, div-le_self, div-lt_iff_lt-mul, arith, leb→le, ltb→lt, to_z-of_z}
 use Rattle.std.specs.Int.Signed.{mag, shr_z, quot_z, rem_z, mag_rem}

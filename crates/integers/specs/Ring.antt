@@ -1,7 +1,7 @@
 -- Identities and orders of sums and products. Each integer is written as a difference of naturals (`whole` for an
 -- unknown, `lit` and `lit_` for a literal), `simp ring` carries the operations out on the differences, and `⊖_≡` or
 -- `⊖_≤` leaves one statement on naturals:
---     rw (whole a, whole b, lit 7) (simp ring (⊖-≡ _ _ _ _ (simp products (omega arith))))
+--     rw (whole a, whole b, lit 7) (simp ring (⊖_≡ _ _ _ _ (simp products (omega arith))))
 use Rattle.std.specs.Prelude.{◌≡◌, ℕ, suc, ◌+◌, ◌*◌, ◌≤◌, ◌<◌, ℤ, pos, negsuc, neg_ℤ, ◌+ℤ◌, ◌*ℤ◌, ◌≤ℤ◌, ◌<ℤ◌}
 use Rattle.std.proofs.Common.{ap, mul-add, add-mul, mul_assoc, mul_comm, mul_left_comm, mul-zero, zero-mul, arith}
 use Rattle.std.proofs.Math.IntN.{sub_ℕ}

@@ -4,3 +4,4 @@ mod StoresAligned
 mod LoadsAligned
 mod StoresBeyond
 mod LoadsBeyond
+mod Merges

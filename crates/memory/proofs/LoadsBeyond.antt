@@ -1,30 +1,23 @@
--- What RAM answers a load is what memory answers, unless it is a bus error: then the address is beyond RAM.
+-- Where RAM answers a load by a bus error, the address is beyond RAM.
 use mathlib.Core.Bool.{Bool}
-use mathlib.Core.Path.{◌≡◌, refl}
+use mathlib.Core.List.{List}
+use mathlib.Core.Path.{◌≡◌, sym, ◌∙◌}
 use Prim.Native.Nat.{ℕ}
-use lib.ListN.{length}
+use Rattle.std.specs.Prelude.{Result, Ok, Err}
 use Rattle.memory.specs.Addresses.{place_of}
-use Rattle.memory.specs.Memory.{Memory}
 use Rattle.memory.specs.declared.addresses.Place.{Place}
 use Rattle.memory.specs.declared.addresses.Place.TheVariants as P
-use Rattle.memory.specs.Loads.{load_align, load_of, ram_load_of}
-use Rattle.memory.specs.declared.loads.Loaded.{Loaded}
-use Rattle.memory.specs.declared.loads.Loaded.TheVariants as D
+use Rattle.memory.specs.declared.addresses.Fault.{Fault}
+use Rattle.memory.specs.declared.addresses.Fault.TheVariants.{Bus, Address}
+use Rattle.memory.specs.Loads.{ram_load_of}
 use Rattle.memory.specs.declared.loads.LoadKind.{LoadKind}
 use Rattle.memory.proofs.Places.{Beyond, Tells, place_tells}
 
-abbrev pub Answered : LoadKind → Memory → ℕ → ℕ → Place → Loaded → Type 0
-Answered k m old a q (D.Value x) = D.Value x ≡ load_of k m old q
-Answered k m old a q D.Bus = Beyond a (load_align k) q
-Answered k m old a q D.Address = D.Address ≡ load_of k m old q
+beyond_at : (k : LoadKind) (ram : List ℕ) (old a align len : ℕ) (q : Result Place Fault) → Tells a align len q → ram_load_of k ram old q ≡ Err Bus → Beyond a align q
+beyond_at k ram old a align len (Ok (P.Ram p)) t e = cc
+beyond_at k ram old a align len (Ok (P.Pad p)) t e = t
+beyond_at k ram old a align len (Err Bus) t e = t
+beyond_at k ram old a align len (Err Address) t e = cc
 
-answered_at : (k : LoadKind) (m : Memory) (old a len : ℕ) (q : Place) → Tells a (load_align k) len q → Answered k m old a q (ram_load_of k m.ram old q)
-answered_at k m old a len (P.Ram p) t = refl
-answered_at k m old a len (P.Pad p) t = t
-answered_at k m old a len P.Bus t = t
-answered_at k m old a len P.Address t = refl
-
-pub answered : (k : LoadKind) (m : Memory) (old a : ℕ) (user : Bool) (r : Loaded) → r ≡ ram_load_of k m.ram old (place_of a (load_align k) user (length m.ram)) → Answered k m old a (place_of a (load_align k) user (length m.ram)) r
-answered k m old a user r e =
-    let n = length m.ram in
-    rw e (answered_at k m old a n (place_of a (load_align k) user n) (place_tells a (load_align k) user n))
+pub load_passed : (k : LoadKind) (ram : List ℕ) (old a align : ℕ) (user : Bool) (len : ℕ) (r : Result ℕ Fault) → r ≡ ram_load_of k ram old (place_of a align user len) → r ≡ Err Bus → Beyond a align (place_of a align user len)
+load_passed k ram old a align user len r e b = beyond_at k ram old a align len (place_of a align user len) (place_tells a align user len) (sym e ∙ b)

@@ -1,5 +1,5 @@
 -- A place that an address has lies in its memory and keeps the address's alignment, and memory has room for what stands there.
-use Prim.Native.Nat.{ℕ, suc, ◌+◌, ◌-◌, ◌*◌, ◌/◌, ◌%◌, ◌<◌, ◌≤◌}
+use Prim.Native.Nat.{ℕ, ◌+◌, ◌-◌, ◌*◌, ◌/◌, ◌%◌, ◌<◌, ◌≤◌}
 use mathlib.Core.Bool.{Bool, true, false, cond, ◌&&◌, and-eq-true_iff}
 use mathlib.Core.List.{List}
 use mathlib.Core.Path.{◌≡◌, refl, sym, ap, ◌∙◌}
@@ -10,9 +10,10 @@ use borrow.Author.Tests.{eqb-true, eqb-false, ltb-true, leb-true, eq-eqb, lt-ltb
 use Rattle.memory.specs.Addresses.{ram_length, RamOk, mapped, physical_of, pad_base, pad_length, pad_mapped, in_pad, pad_at, beyond_ram, segment_of, place_of, word_in_ram, direct_of}
 use Rattle.memory.specs.declared.addresses.Phys.{Phys}
 use Rattle.memory.specs.declared.addresses.Place.{Place}
-use Rattle.memory.specs.declared.addresses.Place.TheVariants.{Ram, Pad, Bus, Address}
-use Rattle.memory.specs.declared.addresses.Direct.{Direct}
-use Rattle.memory.specs.declared.addresses.Direct.TheVariants as Direct
+use Rattle.memory.specs.declared.addresses.Place.TheVariants.{Ram, Pad}
+use Rattle.memory.specs.declared.addresses.Fault.{Fault}
+use Rattle.memory.specs.declared.addresses.Fault.TheVariants.{Bus, Address}
+use Rattle.std.specs.Prelude.{Option, Some, None, Result, Ok, Err}
 
 -- ---- a test either way
 either : {A : Type 0} (P : A → Type 0) (b : Bool) (x y : A) → (b ≡ true → P x) → (b ≡ false → P y) → P (cond b x y)
@@ -40,11 +41,11 @@ pub record InPad (a : ℕ) (p : Phys) : Type 0 where
   pub above : pad_base ≤ p.0
   pub below : p.0 < pad_base + pad_length
 
-abbrev PadOrBus : ℕ → Place → Type 0
-PadOrBus a (Ram p) = ⊥
-PadOrBus a (Pad p) = InPad a p
-PadOrBus a Bus = Unit
-PadOrBus a Address = ⊥
+abbrev PadOrBus : ℕ → Result Place Fault → Type 0
+PadOrBus a (Ok (Ram p)) = ⊥
+PadOrBus a (Ok (Pad p)) = InPad a p
+PadOrBus a (Err Bus) = Unit
+PadOrBus a (Err Address) = ⊥
 
 pad_is : (a : ℕ) → in_pad a ≡ true → InPad a (physical_of a)
 unfolding in_pad
@@ -57,13 +58,10 @@ pad_or_bus : (a : ℕ) → PadOrBus a (beyond_ram a)
 unfolding beyond_ram
 pad_or_bus a = either (PadOrBus a) (in_pad a) _ _ (pad_is a) (λ i. tt)
 
-pub not_ram : (a : ℕ) (p : Phys) → Ram p ≡ beyond_ram a → ⊥
+pub not_ram : (a : ℕ) (p : Phys) → Ok (Ram p) ≡ beyond_ram a → ⊥
 not_ram a p e = rw (← e) at (pad_or_bus a)
 
-pub not_address : (a : ℕ) → Address ≡ beyond_ram a → ⊥
-not_address a e = rw (← e) at (pad_or_bus a)
-
-pub in_pad_lem : (a : ℕ) (p : Phys) → Pad p ≡ beyond_ram a → InPad a p
+pub in_pad_lem : (a : ℕ) (p : Phys) → Ok (Pad p) ≡ beyond_ram a → InPad a p
 in_pad_lem a p e = rw (← e) at (pad_or_bus a)
 
 pub pad_aligned : (a align : ℕ) (p : Phys) → Keeps align → a % align ≡ 0 → InPad a p → pad_at p % align ≡ 0
@@ -77,21 +75,21 @@ pub record InRam (a align len : ℕ) (p : Phys) : Type 0 where
   pub below : p.0 < len
 
 -- neither in RAM nor an address error
-pub record Beyond (a align : ℕ) (q : Place) : Type 0 where
+pub record Beyond (a align : ℕ) (q : Result Place Fault) : Type 0 where
   pub aligned : a % align ≡ 0
   pub is : q ≡ beyond_ram a
 
-abbrev pub Tells : ℕ → ℕ → ℕ → Place → Type 0
-Tells a align len (Ram p) = InRam a align len p
-Tells a align len (Pad p) = Beyond a align (Pad p)
-Tells a align len Bus = Beyond a align Bus
-Tells a align len Address = Unit
+abbrev pub Tells : ℕ → ℕ → ℕ → Result Place Fault → Type 0
+Tells a align len (Ok (Ram p)) = InRam a align len p
+Tells a align len (Ok (Pad p)) = Beyond a align (Ok (Pad p))
+Tells a align len (Err Bus) = Beyond a align (Err Bus)
+Tells a align len (Err Address) = Unit
 
-beyond_tells : (a align len : ℕ) → a % align ≡ 0 → (q : Place) → q ≡ beyond_ram a → Tells a align len q
-beyond_tells a align len h (Ram p) e = absurd (not_ram a p e)
-beyond_tells a align len h (Pad p) e = record { aligned = h; is = e }
-beyond_tells a align len h Bus e = record { aligned = h; is = e }
-beyond_tells a align len h Address e = tt
+beyond_tells : (a align len : ℕ) → a % align ≡ 0 → (q : Result Place Fault) → q ≡ beyond_ram a → Tells a align len q
+beyond_tells a align len h (Ok (Ram p)) e = absurd (not_ram a p e)
+beyond_tells a align len h (Ok (Pad p)) e = record { aligned = h; is = e }
+beyond_tells a align len h (Err Bus) e = record { aligned = h; is = e }
+beyond_tells a align len h (Err Address) e = tt
 
 pub segment_tells : (a align len : ℕ) → a % align ≡ 0 → Tells a align len (segment_of a len)
 unfolding segment_of
@@ -109,13 +107,13 @@ place_tells a align user len =
     (λ e. either (Tells a align len) (user && leb 0x8000_0000 a) _ _ (λ u. tt) (λ u. segment_tells a align len (eqb-true _ 0 e)))
     (λ e. tt)
 
-in_ram : (a align : ℕ) (user : Bool) (len : ℕ) (p : Phys) → place_of a align user len ≡ Ram p → InRam a align len p
+in_ram : (a align : ℕ) (user : Bool) (len : ℕ) (p : Phys) → place_of a align user len ≡ Ok (Ram p) → InRam a align len p
 in_ram a align user len p e = rw e at (place_tells a align user len)
 
-pub below : (a align : ℕ) (user : Bool) (len : ℕ) (p : Phys) → place_of a align user len ≡ Ram p → p.0 < len
+pub below : (a align : ℕ) (user : Bool) (len : ℕ) (p : Phys) → place_of a align user len ≡ Ok (Ram p) → p.0 < len
 below a align user len p e = (in_ram a align user len p e).below
 
-pub aligned : (a align : ℕ) (user : Bool) (len : ℕ) (p : Phys) → Keeps align → place_of a align user len ≡ Ram p → p.0 % align ≡ 0
+pub aligned : (a align : ℕ) (user : Bool) (len : ℕ) (p : Phys) → Keeps align → place_of a align user len ≡ Ok (Ram p) → p.0 % align ≡ 0
 aligned a align user len p k e = let i = in_ram a align user len p e in rw i.is (k.ram a i.aligned)
 
 -- ---- room in memory of whole words
@@ -126,22 +124,8 @@ pub ram_words : (m : List ℕ) → RamOk m → Words m
 unfolding ram_length
 ram_words m ok = eqb-true _ 0 ((and-eq-true_iff _ _).0 ok).0
 
-pub room_word_of : (m : List ℕ) (at : ℕ) → Words m → at < length m → at / 4 * 4 + 4 ≤ length m
-room_word_of m at w h = omega arith
-
 pub room_word : (m : List ℕ) (at : ℕ) → Words m → at < length m → at % 4 ≡ 0 → at + 4 ≤ length m
 room_word m at w h e = omega arith
-
-pub room_half : (m : List ℕ) (at : ℕ) → Words m → at < length m → at % 2 ≡ 0 → at + 2 ≤ length m
-room_half m at w h e = omega arith
-
--- ---- the places in a word
-pub last_of_four : (n : ℕ) → n < 4 → (n ≡ 0 → ⊥) → (n ≡ 1 → ⊥) → (n ≡ 2 → ⊥) → n ≡ 3
-last_of_four n h a b c = omega arith
-
--- code adds literals, lists count by `suc`
-pub at_2 : (a : ℕ) → a + 2 ≡ suc (suc a)
-at_2 a = omega arith
 
 -- ---- one number that is a word's place in RAM, or above every length of RAM
 abbrev pub index : ℕ → ℕ
@@ -187,7 +171,7 @@ four_of : (a : ℕ) → a % 4 ≡ 0 → a % 0x8000_0000 % 4 ≡ 0
 four_of a d = omega arith
 
 -- where the number is below the count of RAM's words, the address is a word's in RAM
-pub direct : (len a : ℕ) → ram_length len ≡ true → index a < len / 4 → Direct.At (record { 0 = index a * 4 }) ≡ direct_of a len
+pub direct : (len a : ℕ) → ram_length len ≡ true → index a < len / 4 → Some (record { 0 = index a * 4 }) ≡ direct_of a len
 unfolding word_in_ram
 direct len a ok h =
     let n = short len ok in
@@ -197,26 +181,26 @@ direct len a ok h =
     rw (eq-eqb _ _ (by_four a d), lt-ltb _ _ i, low a u, back (a % 0x8000_0000) d)
 
 -- where it is not, no such word stands there
-elsewhere_by : (b : Bool) (len a : ℕ) → eqb (a % 4) 0 ≡ b → len % 4 ≡ 0 → len / 4 ≤ index a → Direct.Elsewhere ≡ cond (b && ltb (a % 0x8000_0000) len) (Direct.At (physical_of a)) Direct.Elsewhere
+elsewhere_by : (b : Bool) (len a : ℕ) → eqb (a % 4) 0 ≡ b → len % 4 ≡ 0 → len / 4 ≤ index a → None ≡ cond (b && ltb (a % 0x8000_0000) len) (Some (physical_of a)) None
 elsewhere_by true len a e w h = rw (le-ltb _ _ (outside (a % 0x8000_0000) len h (four_of a (eqb-true _ 0 e)) w))
 elsewhere_by false len a e w h = refl
 
-pub elsewhere : (len a : ℕ) → ram_length len ≡ true → len / 4 ≤ index a → Direct.Elsewhere ≡ direct_of a len
+pub elsewhere : (len a : ℕ) → ram_length len ≡ true → len / 4 ≤ index a → None ≡ direct_of a len
 unfolding ram_length word_in_ram
 elsewhere len a ok h = elsewhere_by (eqb (a % 4) 0) len a refl (eqb-true _ 0 ((and-eq-true_iff _ _).0 ok).0) h
 
 -- the place of such a word, in kernel mode
-placed_by : (b d : Bool) (len a : ℕ) (p : Phys) → eqb (a % 4) 0 ≡ b → ltb (a % 0x8000_0000) len ≡ d → len ≤ 2097152 → a < 0x1_0000_0000 → cond (b && d) (Direct.At (physical_of a)) Direct.Elsewhere ≡ Direct.At p → place_of a 4 false len ≡ Ram p
+placed_by : (b d : Bool) (len a : ℕ) (p : Phys) → eqb (a % 4) 0 ≡ b → ltb (a % 0x8000_0000) len ≡ d → len ≤ 2097152 → a < 0x1_0000_0000 → cond (b && d) (Some (physical_of a)) None ≡ Some p → place_of a 4 false len ≡ Ok (Ram p)
 unfolding place_of segment_of
 placed_by true true len a p e f n l h =
     let i = ltb-true _ len f in
     let u = less (a % 0x8000_0000) len 2097152 i n in
     let q : physical_of a ≡ p = cc in
     let g : ltb (a % 0x2000_0000) len ≡ true = rw (low a u) f in
-    rw (e, in_kernel a (eqb (a / 0x2000_0000) 0) refl l (top a u), g) (ap Ram q)
-placed_by true false len a p e f n l h = let z : ◌≡◌ {A = ℕ} 0 1 = cc in absurd (omega arith)
-placed_by false d len a p e f n l h = let z : ◌≡◌ {A = ℕ} 0 1 = cc in absurd (omega arith)
+    rw (e, in_kernel a (eqb (a / 0x2000_0000) 0) refl l (top a u), g) (ap (λ (x : Phys). Ok (Ram x)) q)
+placed_by true false len a p e f n l h = cc
+placed_by false d len a p e f n l h = cc
 
-pub placed : (len a : ℕ) (p : Phys) (r : Direct) → ram_length len ≡ true → a < 0x1_0000_0000 → r ≡ direct_of a len → r ≡ Direct.At p → place_of a 4 false len ≡ Ram p
+pub placed : (len a : ℕ) (p : Phys) (r : Option Phys) → ram_length len ≡ true → a < 0x1_0000_0000 → r ≡ direct_of a len → r ≡ Some p → place_of a 4 false len ≡ Ok (Ram p)
 unfolding word_in_ram
 placed len a p r ok l e h = placed_by (eqb (a % 4) 0) (ltb (a % 0x8000_0000) len) len a p refl refl (short len ok) l (sym e ∙ h)

@@ -1,39 +1,27 @@
--- What RAM answers a store is what memory answers, unless it is a bus error: then RAM is as it was, and the address is beyond it.
+-- Where RAM answers a store by a bus error, the address is beyond RAM, and RAM is as it was.
 use mathlib.Core.Bool.{Bool}
 use mathlib.Core.List.{List}
-use mathlib.Core.Path.{◌≡◌, refl}
+use mathlib.Core.Path.{◌≡◌, refl, sym, ◌∙◌}
 use Prim.Native.Nat.{ℕ}
-use lib.ListN.{length}
+use Rattle.std.specs.Prelude.{Result, Ok, Err}
 use Rattle.memory.specs.Addresses.{place_of}
-use Rattle.memory.specs.Memory.{memory}
 use Rattle.memory.specs.declared.addresses.Place.{Place}
 use Rattle.memory.specs.declared.addresses.Place.TheVariants as P
-use Rattle.memory.specs.Stores.{store_align, store_of, memory_after, ram_store_of, ram_after}
-use Rattle.memory.specs.declared.stores.Stored.{Stored}
-use Rattle.memory.specs.declared.stores.Stored.TheVariants as T
+use Rattle.memory.specs.declared.addresses.Fault.{Fault}
+use Rattle.memory.specs.declared.addresses.Fault.TheVariants.{Bus, Address}
+use Rattle.memory.specs.Stores.{ram_store_of, ram_after}
 use Rattle.memory.specs.declared.stores.StoreKind.{StoreKind}
 use Rattle.memory.proofs.Places.{Beyond, Tells, place_tells}
 
-pub record Settled (k : StoreKind) (ram pad : List ℕ) (x : ℕ) (q : Place) (r : Stored) : Type 0 where
-  pub is : r ≡ store_of q
-  pub after : memory (ram_after k ram x q) pad ≡ memory_after k (memory ram pad) x q
-
-pub record PassedOn (k : StoreKind) (ram : List ℕ) (x a : ℕ) (q : Place) : Type 0 where
-  pub beyond : Beyond a (store_align k) q
+pub record Passed (k : StoreKind) (ram : List ℕ) (x a align : ℕ) (q : Result Place Fault) : Type 0 where
+  pub beyond : Beyond a align q
   pub kept : ram_after k ram x q ≡ ram
 
-abbrev pub Answered : StoreKind → List ℕ → List ℕ → ℕ → ℕ → Place → Stored → Type 0
-Answered k ram pad x a q T.Done = Settled k ram pad x q T.Done
-Answered k ram pad x a q T.Bus = PassedOn k ram x a q
-Answered k ram pad x a q T.Address = Settled k ram pad x q T.Address
+passed_at : (k : StoreKind) (ram : List ℕ) (x a align len : ℕ) (q : Result Place Fault) → Tells a align len q → ram_store_of q ≡ Err Bus → Passed k ram x a align q
+passed_at k ram x a align len (Ok (P.Ram p)) t e = cc
+passed_at k ram x a align len (Ok (P.Pad p)) t e = record { beyond = t; kept = refl }
+passed_at k ram x a align len (Err Bus) t e = record { beyond = t; kept = refl }
+passed_at k ram x a align len (Err Address) t e = cc
 
-answered_at : (k : StoreKind) (ram pad : List ℕ) (x a len : ℕ) (q : Place) → Tells a (store_align k) len q → Answered k ram pad x a q (ram_store_of q)
-answered_at k ram pad x a len (P.Ram p) t = record { is = refl; after = refl }
-answered_at k ram pad x a len (P.Pad p) t = record { beyond = t; kept = refl }
-answered_at k ram pad x a len P.Bus t = record { beyond = t; kept = refl }
-answered_at k ram pad x a len P.Address t = record { is = refl; after = refl }
-
-pub answered : (k : StoreKind) (ram pad : List ℕ) (x a : ℕ) (user : Bool) (r : Stored) → r ≡ ram_store_of (place_of a (store_align k) user (length ram)) → Answered k ram pad x a (place_of a (store_align k) user (length ram)) r
-answered k ram pad x a user r e =
-    let n = length ram in
-    rw e (answered_at k ram pad x a n (place_of a (store_align k) user n) (place_tells a (store_align k) user n))
+pub store_passed : (k : StoreKind) (ram : List ℕ) (x a align : ℕ) (user : Bool) (len : ℕ) (r : Result Unit Fault) → r ≡ ram_store_of (place_of a align user len) → r ≡ Err Bus → Passed k ram x a align (place_of a align user len)
+store_passed k ram x a align user len r e b = passed_at k ram x a align len (place_of a align user len) (place_tells a align user len) (sym e ∙ b)

@@ -1,11 +1,11 @@
 -- Addresses (01 "Addresses"). A virtual address and a physical one are separate kinds; only the segment translation turns
 -- one into the other.
-use Rattle.std.specs.Prelude.{Bool, true, cond, ◌&&◌, ◌||◌, List, ◌≡◌, ℕ, ◌+◌, ◌-◌, ◌/◌, ◌%◌, eqb, ltb, leb, length}
+use Rattle.std.specs.Prelude.{Bool, true, cond, ◌&&◌, ◌||◌, List, ◌≡◌, ℕ, ◌+◌, ◌-◌, ◌/◌, ◌%◌, eqb, ltb, leb, length, Option, Some, None, Result, Ok, Err}
 use Rattle.memory.specs.declared.addresses.Phys.{Phys}
 use Rattle.memory.specs.declared.addresses.Place.{Place}
-use Rattle.memory.specs.declared.addresses.Place.TheVariants.{Ram, Pad, Bus, Address}
-use Rattle.memory.specs.declared.addresses.Direct.{Direct}
-use Rattle.memory.specs.declared.addresses.Direct.TheVariants as D
+use Rattle.memory.specs.declared.addresses.Place.TheVariants.{Ram, Pad}
+use Rattle.memory.specs.declared.addresses.Fault.{Fault}
+use Rattle.memory.specs.declared.addresses.Fault.TheVariants.{Bus, Address}
 
 -- a RAM length that is run: a multiple of 4 in 4..2,097,152
 unfoldable pub ram_length : ℕ → Bool
@@ -42,21 +42,21 @@ abbrev pub pad_at : Phys → ℕ
 pad_at p = p.0 - pad_base
 
 -- an address that is not in RAM: in the pad, or a bus error
-unfoldable pub beyond_ram : ℕ → Place
-beyond_ram a = cond (in_pad a) (Pad (physical_of a)) Bus
+unfoldable pub beyond_ram : ℕ → Result Place Fault
+beyond_ram a = cond (in_pad a) (Ok (Pad (physical_of a))) (Err Bus)
 
 -- in RAM of a length, or beyond it
-unfoldable pub segment_of : ℕ → ℕ → Place
-segment_of a len = cond (mapped a && ltb (a % 0x2000_0000) len) (Ram (physical_of a)) (beyond_ram a)
+unfoldable pub segment_of : ℕ → ℕ → Result Place Fault
+segment_of a len = cond (mapped a && ltb (a % 0x2000_0000) len) (Ok (Ram (physical_of a))) (beyond_ram a)
 
 -- with KUc = 1 an address with bit 31 set is an address error, and so is one that is not aligned; both before the bus
-unfoldable pub place_of : ℕ → ℕ → Bool → ℕ → Place
-place_of a align user len = cond (eqb (a % align) 0) (cond (user && leb 0x8000_0000 a) Address (segment_of a len)) Address
+unfoldable pub place_of : ℕ → ℕ → Bool → ℕ → Result Place Fault
+place_of a align user len = cond (eqb (a % align) 0) (cond (user && leb 0x8000_0000 a) (Err Address) (segment_of a len)) (Err Address)
 
 -- an aligned address in segment 000 or 100 and in RAM: without bit 31 it is below RAM's length, which is at most 2^21
 unfoldable pub word_in_ram : ℕ → ℕ → Bool
 word_in_ram a len = eqb (a % 4) 0 && ltb (a % 0x8000_0000) len
 
 -- where such a word lies; of any other it says nothing
-abbrev pub direct_of : ℕ → ℕ → Direct
-direct_of a len = cond (word_in_ram a len) (D.At (physical_of a)) D.Elsewhere
+abbrev pub direct_of : ℕ → ℕ → Option Phys
+direct_of a len = cond (word_in_ram a len) (Some (physical_of a)) None

@@ -1,5 +1,5 @@
 -- What a load makes of memory at the place of an address.
-use Rattle.std.specs.Prelude.{List, ℕ, ◌+◌, ◌-◌, ◌*◌, ◌/◌, ◌%◌, ◌^◌, get_or}
+use Rattle.std.specs.Prelude.{List, ℕ, ◌+◌, ◌-◌, ◌*◌, ◌/◌, ◌%◌, ◌^◌, get_or, Result, Ok, Err}
 use Rattle.std.specs.Int.{w8, w16}
 use Rattle.words.specs.Words.{sign_extend}
 use Rattle.byte_order.specs.Bytes.{word_at}
@@ -9,8 +9,8 @@ use Rattle.memory.specs.Addresses.{pad_at}
 use Rattle.memory.specs.Memory.{Memory}
 use Rattle.memory.specs.declared.addresses.Place.{Place}
 use Rattle.memory.specs.declared.addresses.Place.TheVariants as P
-use Rattle.memory.specs.declared.loads.Loaded.{Loaded}
-use Rattle.memory.specs.declared.loads.Loaded.TheVariants as D
+use Rattle.memory.specs.declared.addresses.Fault.{Fault}
+use Rattle.memory.specs.declared.addresses.Fault.TheVariants as F
 
 -- by how much an address has to be a multiple; the parts of words have no alignment
 abbrev pub load_align : LoadKind → ℕ
@@ -43,19 +43,17 @@ read_of L.Left m at old = left_of (word_at m (at / 4 * 4)) old (at % 4)
 read_of L.Right m at old = right_of (word_at m (at / 4 * 4)) old (at % 4)
 
 -- at the place that an address gives
-abbrev pub load_of : LoadKind → Memory → ℕ → Place → Loaded
-load_of k m old (P.Ram p) = D.Value (read_of k m.ram p.0 old)
-load_of k m old (P.Pad p) = D.Value (read_of k m.pad (pad_at p) old)
-load_of k m old P.Bus = D.Bus
-load_of k m old P.Address = D.Address
+abbrev pub load_of : LoadKind → Memory → ℕ → Result Place Fault → Result ℕ Fault
+load_of k m old (Ok (P.Ram p)) = Ok (read_of k m.ram p.0 old)
+load_of k m old (Ok (P.Pad p)) = Ok (read_of k m.pad (pad_at p) old)
+load_of k m old (Err e) = Err e
 
 -- the same where the pad is not reached
-abbrev pub ram_load_of : LoadKind → List ℕ → ℕ → Place → Loaded
-ram_load_of k ram old (P.Ram p) = D.Value (read_of k ram p.0 old)
-ram_load_of k ram old (P.Pad p) = D.Bus
-ram_load_of k ram old P.Bus = D.Bus
-ram_load_of k ram old P.Address = D.Address
+abbrev pub ram_load_of : LoadKind → List ℕ → ℕ → Result Place Fault → Result ℕ Fault
+ram_load_of k ram old (Ok (P.Ram p)) = Ok (read_of k ram p.0 old)
+ram_load_of k ram old (Ok (P.Pad p)) = Err F.Bus
+ram_load_of k ram old (Err e) = Err e
 
 -- a fetch reads a word of RAM; from the pad it is a bus error
-abbrev pub fetch_of : List ℕ → Place → Loaded
+abbrev pub fetch_of : List ℕ → Result Place Fault → Result ℕ Fault
 fetch_of ram place = ram_load_of L.Word ram 0 place

@@ -28,8 +28,8 @@ unfolding search_of search_on
 one_more mask i s₀ s t h e = ap (λ (n : ℕ). search_of mask n s₀) (add-one i) ∙ ap (search_on mask) h ∙ ap (further_by mask (sought 0 i s)) (sym e)
 
 -- the step completes: the search is at its machine, ended if a bit comes up
-pub goes_on : (mask i : ℕ) (s₀ s s₁ : State) (b x : Bool) → search_of mask i s₀ ≡ sought 0 i s → tick b s₁ ≡ step_of s → b ≡ false → rises_of mask s s₁ ≡ x → search_of mask (i + 1) s₀ ≡ sought (found_of x) (i + 1) s₁
-goes_on mask i s₀ s s₁ b x h e f r = one_more mask i s₀ s (tick b s₁) h e ∙ ap (λ (q : Bool). further_by mask (sought 0 i s) (tick q s₁)) f ∙ ap (λ (q : Bool). sought (found_of q) (i + 1) s₁) r
+pub goes_on : (mask i : ℕ) (s₀ s s₁ : State) (x : Bool) → search_of mask i s₀ ≡ sought 0 i s → tick false s₁ ≡ step_of s → rises_of mask s s₁ ≡ x → search_of mask (i + 1) s₀ ≡ sought (found_of x) (i + 1) s₁
+goes_on mask i s₀ s s₁ x h e r = one_more mask i s₀ s (tick false s₁) h e ∙ ap (λ (q : Bool). sought (found_of q) (i + 1) s₁) r
 
 ended : (mask : ℕ) (r : Search) → eqb r.code 0 ≡ false → search_on mask r ≡ r
 unfolding search_on
@@ -46,11 +46,5 @@ over mask i count code n s₀ s le c h =
     let len : i + (count - i) ≡ count = omega arith in
     sym h ∙ sym (stays mask i (count - i) s₀ (ap (λ (q : Search). eqb q.code 0) h ∙ c)) ∙ ap (λ (k : ℕ). search_of mask k s₀) len
 
-pub stops : (mask i count : ℕ) (s₀ s s₁ : State) (b : Bool) → i < count → search_of mask i s₀ ≡ sought 0 i s → tick b s₁ ≡ step_of s → b ≡ true → sought 5 i s₁ ≡ search_of mask count s₀
-stops mask i count s₀ s s₁ b lt h e f =
-    over mask (i + 1) count 5 i s₀ s₁ (omega arith) refl (one_more mask i s₀ s (tick b s₁) h e ∙ ap (λ (q : Bool). further_by mask (sought 0 i s) (tick q s₁)) f)
-
-pub ends : (mask i count : ℕ) (s₀ s : State) → i ≤ count → count ≤ i → search_of mask i s₀ ≡ sought 0 i s → sought 0 i s ≡ search_of mask count s₀
-ends mask i count s₀ s le ge h =
-    let same : i ≡ count = omega arith in
-    sym h ∙ ap (λ (n : ℕ). search_of mask n s₀) same
+pub stops : (mask i count : ℕ) (s₀ s s₁ : State) → i < count → search_of mask i s₀ ≡ sought 0 i s → tick true s₁ ≡ step_of s → sought 5 i s₁ ≡ search_of mask count s₀
+stops mask i count s₀ s s₁ lt h e = over mask (i + 1) count 5 i s₀ s₁ (omega arith) refl (one_more mask i s₀ s (tick true s₁) h e)

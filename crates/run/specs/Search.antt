@@ -6,6 +6,8 @@ use Rattle.cpu_state.specs.State.{State}
 use Rattle.cpu_perform.specs.Perform.{Tick}
 use Rattle.cpu_step.specs.Step.{step_of}
 use Rattle.run.specs.Run.{Run}
+use Rattle.run.specs.declared.End.{End}
+use Rattle.run.specs.declared.End.TheVariants.{Counted, Unlisted, Flag}
 
 -- none of a mask's bits is set in FLAG
 abbrev pub clear_of : ℕ → State → Bool
@@ -14,6 +16,12 @@ clear_of mask s = eqb (bit_and (reg s.geometry 63) mask) 0
 -- one comes up between two machines
 abbrev pub rises_of : ℕ → State → State → Bool
 rises_of mask s t = clear_of mask s && not (clear_of mask t)
+
+-- the number of each end
+abbrev pub end_code : End → ℕ
+end_code Counted = 0
+end_code Unlisted = 5
+end_code Flag = 16
 
 -- how the search stands (0: it goes on; 5: before an unlisted COP2 command; 16: a bit has come up), the steps completed, and the
 -- machine after them

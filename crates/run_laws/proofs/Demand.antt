@@ -20,7 +20,7 @@ use Rattle.cpu_step.specs.Step.{command_step, issue_of, step_of}
 use Rattle.words.specs.Words.{bit_at}
 use Rattle.gte_registers.specs.Registers.{reg}
 use Rattle.gte.specs.Commands.{Command, command_in, listed, outcome_of, command_of}
-use Rattle.gte.specs.declared.Outcome.TheVariants as O
+use Rattle.std.specs.Prelude.{Ok}
 use Rattle.gte_laws.specs.Exact.{checks_at, condition}
 use Rattle.gte_laws.specs.Demand.{tolerance, Near, Goes, single, first, second, third}
 use Rattle.gte_laws.proofs.Exact.{demand_2}
@@ -107,21 +107,21 @@ unfolding run_of
 stop_is k s e = stop_by (run_of k s).stop (run_of k s) refl e
 
 -- ---- the step that carries out a listed command
-effect_is : (o : Op) (word : ℕ) (s : State) (x y z : ℕ) → o ≡ D.Command → outcome_of word ≡ O.Done → (perform_of command_step (execute_of o (fields_of word) x y z s.control.product) s).after.geometry ≡ command_of word s.geometry
+effect_is : (o : Op) (word : ℕ) (s : State) (x y z : ℕ) → o ≡ D.Command → outcome_of word ≡ Ok tt → (perform_of command_step (execute_of o (fields_of word) x y z s.control.product) s).after.geometry ≡ command_of word s.geometry
 unfolding execute_of perform_of fields_of next_step
 effect_is o word s x y z e d = rw (e, d)
 
-carried : (word : ℕ) (s : State) → CarriesOut word s → outcome_of word ≡ O.Done → (step_of s).after.geometry ≡ command_of word s.geometry
+carried : (word : ℕ) (s : State) → CarriesOut word s → outcome_of word ≡ Ok tt → (step_of s).after.geometry ≡ command_of word s.geometry
 unfolding step_of issue_of
 carried word s c d = rw (c.at_pc, c.usable) (effect_is (decode_of word) word s _ _ _ c.command d)
 
-goes_done : (c : Command) (v r : ℕ) → Goes c v r → listed c ≡ O.Done
+goes_done : (c : Command) (v r : ℕ) → Goes c v r → listed c ≡ Ok tt
 goes_done c v r single = refl
 goes_done c v r first = refl
 goes_done c v r second = refl
 goes_done c v r third = refl
 
-done : (word v r : ℕ) → Goes (command_in word) v r → outcome_of word ≡ O.Done
+done : (word v r : ℕ) → Goes (command_in word) v r → outcome_of word ≡ Ok tt
 unfolding outcome_of
 done word v r g = goes_done (command_in word) v r g
 
@@ -163,7 +163,7 @@ machine_is i m k t u x = rw (x.before, x.before_memory) (machine_back t x.formed
 words_before : (i : List ℕ) (m : Memory) (k : ℕ) (t u : State) → At i m k t u → geometry_in (answer_of i m k).image ≡ t.geometry
 words_before i m k t u x = rw x.before (geometry_back t x.formed)
 
-words_after_lem : (i : List ℕ) (m : Memory) (k word : ℕ) (t u : State) → At i m k t u → CarriesOut word (machine_of (answer_of i m k).image (answer_of i m k).memory) → outcome_of word ≡ O.Done → geometry_in (answer_of i m (suc k)).image ≡ command_of word t.geometry
+words_after_lem : (i : List ℕ) (m : Memory) (k word : ℕ) (t u : State) → At i m k t u → CarriesOut word (machine_of (answer_of i m k).image (answer_of i m k).memory) → outcome_of word ≡ Ok tt → geometry_in (answer_of i m (suc k)).image ≡ command_of word t.geometry
 words_after_lem i m k word t u x c d =
     let ct : CarriesOut word t = rw (machine_is i m k t u x) at c in
     rw x.after (geometry_back u x.formed_after ∙ ap (λ (y : State). y.geometry) x.step ∙ carried word t ct d)

@@ -1,17 +1,15 @@
 -- Demands 2 and 3 over runs, demand 3 in whole numbers (01 "GTE arithmetic").
-use Rattle.std.specs.Prelude.{true, false, List, ◌≡◌, ℕ, suc, ◌≤◌}
+use Rattle.std.specs.Prelude.{true, false, Ok, List, ◌≡◌, ℕ, suc, ◌≤◌}
 use Rattle.cpu_decode.specs.Decode.{decode_of}
 use Rattle.cpu_decode.specs.Owners.{owner_of}
 use Rattle.cpu_decode.specs.declared.operations.Op.TheVariants.{Command}
 use Rattle.memory.specs.Memory.{Memory}
-use Rattle.memory.specs.declared.loads.Loaded.TheVariants.{Value}
 use Rattle.cpu_state.specs.System.{usable_of}
 use Rattle.cpu_state.specs.State.{State}
 use Rattle.cpu_step.specs.Step.{fetched, step_of}
 use Rattle.words.specs.Words.{bit_at}
 use Rattle.gte_registers.specs.Registers.{reg}
 use Rattle.gte.specs.Commands.{command_in, sf_of, outcome_of}
-use Rattle.gte.specs.declared.Outcome.TheVariants.{Done}
 use Rattle.gte_laws.specs.Exact.{checks_at, condition}
 use Rattle.gte_laws.specs.Demand.{tolerance, Near, Goes}
 use Rattle.image.specs.Image.{geometry_in, machine_of, image_of}
@@ -20,7 +18,7 @@ use Rattle.run_laws.specs.Runs.{Accepted, steps_in}
 
 -- the next step carries out a COP2 command word: it is fetched, and usable, so the step takes no exception
 pub record CarriesOut (word : ℕ) (s : State) : Type 0 where
-  pub at_pc : fetched s ≡ Value word
+  pub at_pc : fetched s ≡ Ok word
   pub usable : usable_of (owner_of word) s.control.system ≡ true
   pub command : decode_of word ≡ Command
 
@@ -35,7 +33,7 @@ pub record StepExact (i : List ℕ) (m : Memory) (k : ℕ) : Type 0 where
   pub memory_after : (answer_of i m (suc k)).memory ≡ (step_of (machine_of (answer_of i m k).image (answer_of i m k).memory)).after.memory
   pub flag : (word b : ℕ)
       → CarriesOut word (machine_of (answer_of i m k).image (answer_of i m k).memory)
-      → outcome_of word ≡ Done
+      → outcome_of word ≡ Ok tt
       → bit_at b (reg (geometry_in (answer_of i m (suc k)).image) 63) ≡ condition b (checks_at word (geometry_in (answer_of i m k).image))
 
 abbrev pub Demand2 : Type 0

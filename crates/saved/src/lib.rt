@@ -4,28 +4,30 @@
 
 ghost use Rattle.std.specs.Prelude.{◌≡◌, ◌+◌, ◌<◌, ◌≤◌, length, drop};
 ghost use Rattle.std.proofs.lemmas.List.Edits.{sets};
+ghost use Rattle.answer.specs.Codes.{answer_of, code_in, number_in};
 ghost use Rattle.byte_order.specs.Bytes.{words_at};
 ghost use Rattle.image.specs.Formed.{formed};
 ghost use Rattle.saved_format.specs.Format.{Machine, Means};
 ghost use Rattle.saved_format.specs.Writing.{full_blocks, ram_in, blocks_length, file_length};
-ghost use Rattle.saved.specs.Refusals.{length_code};
+ghost use Rattle.saved.specs.Refusals.{length_code, Lent};
 ghost use Rattle.saved.specs.Save.{saved, save_of};
 ghost use Rattle.saved.specs.Load.{loaded, load_of, Loads};
 ghost use Rattle.saved.specs.Parts.{fields_of, image_in, pad_in};
 
-use answer::Answer;
+use answer::{Answer, Refusal};
 use byte_order::read_words;
 use image::admission::memory_refusal;
 use image::formed::well_formed;
-use saved_check::{Verdict, check};
+use saved_check::check;
 use saved_copy::{copy, put_blocks, put_field, take_blocks};
 
-// Code 1 for the length of the image, 3 for that of RAM, 6 for the pad's, or 0.
-fn length_code(image: usize, ram: usize, pad: usize) -> u64
-    ensures { result ≡ length_code image ram pad }
+// Refused for the length of the image, of RAM or of the pad.
+#[tactic(auto, unfolding(crate::specs::Refusals::length_code, image::specs::Refusals::first_of))]
+fn length_refusal(image: usize, ram: usize, pad: usize) -> Result<(), Refusal>
+    ensures { code_in result ≡ length_code image ram pad }
 {
     if image != 432 {
-        return 1;
+        return Err(Refusal::ImageLength);
     }
     memory_refusal(ram, pad)
 }
@@ -54,7 +56,8 @@ fn blocks_length(n: usize) -> usize
 
 // The fields of a machine, stored from the first byte on.
 fn put_machine(out: &mut [u8], image: &[u8], ram: &[u8], pad: &[u8])
-    requires { (length image.now ≡ 432) × (1 ≤ length ram.now) × (length ram.now ≤ 2097152) × (length pad.now ≡ 1024) × (file_length (length ram.now) ≤ length out.old) }
+    requires lent { Lent (length image.now) (length ram.now) (length pad.now) }
+    requires space { file_length (length ram.now) ≤ length out.old }
     ensures { out.new ≡ sets out.old 0 (fields_of image.now ram.now pad.now) }
 {
     let at = 438 + blocks_length(ram.len());
@@ -67,7 +70,8 @@ fn put_machine(out: &mut [u8], image: &[u8], ram: &[u8], pad: &[u8])
 
 // The machine of a well-formed file whose RAM is as long as the lent RAM.
 fn take_machine(file: &[u8], image: &mut [u8], ram: &mut [u8], pad: &mut [u8])
-    requires { (length image.old ≡ 432) × (1 ≤ length ram.old) × (length ram.old ≤ 2097152) × (length pad.old ≡ 1024) × (file_length (length ram.old) ≤ length file.now) }
+    requires lent { Lent (length image.old) (length ram.old) (length pad.old) }
+    requires long { file_length (length ram.old) ≤ length file.now }
     ensures image { image.new ≡ image_in file.now }
     ensures ram { ram.new ≡ ram_in (full_blocks (length ram.old)) (length ram.old) (drop 438 file.now) }
     ensures pad { pad.new ≡ pad_in (length ram.old) file.now }
@@ -79,60 +83,62 @@ fn take_machine(file: &[u8], image: &mut [u8], ram: &mut [u8], pad: &mut [u8])
     copy(pad, 0, &file[at..at + 1024]);
 }
 
-// A machine written to the front of the space: codes 1, 3, 6, 2 and 8 in this order, and the bytes that were used.
-pub fn save_machine(image: &[u8], ram: &[u8], pad: &[u8], space: &mut [u8]) -> Answer
-    ensures { saved result.code result.number space.new ≡ save_of image.now ram.now pad.now space.old }
+// A machine written to the front of the space: how many bytes were used, or a refusal of code 1, 3, 6, 2 or 8, in this order.
+#[tactic(auto, using(crate::proofs::Calls::lent, crate::proofs::Calls::save_refused))]
+fn save(image: &[u8], ram: &[u8], pad: &[u8], space: &mut [u8]) -> Result<u64, Refusal>
+    ensures { saved (answer_of result).code (answer_of result).number space.new ≡ save_of image.now ram.now pad.now space.old }
 {
-    let code = length_code(image.len(), ram.len(), pad.len());
-    if code != 0 {
-        return Answer { code, number: 0 };
-    }
+    length_refusal(image.len(), ram.len(), pad.len())?;
     if !words_formed(image, 0, 176) {
-        return Answer { code: 2, number: 0 };
+        return Err(Refusal::ImageForm);
     }
     let n = 1468 + blocks_length(ram.len());
     if space.len() < n {
-        return Answer { code: 8, number: 0 };
+        return Err(Refusal::Space(0));
     }
     put_machine(space, image, ram, pad);
-    Answer {
-        code: 0,
-        number: n as u64,
-    }
+    Ok(n as u64)
+}
+
+// The same as a code and a number.
+pub fn save_machine(image: &[u8], ram: &[u8], pad: &[u8], space: &mut [u8]) -> Answer
+    ensures { saved result.code result.number space.new ≡ save_of image.now ram.now pad.now space.old }
+{
+    Answer::from(save(image, ram, pad, space))
 }
 
 // The rest of a load, of a well-formed file and buffers of the right lengths: codes 2 and 8, and then the machine.
-fn load_formed(file: &[u8], image: &mut [u8], ram: &mut [u8], pad: &mut [u8]) -> u64
-    requires { (1472 ≤ length file.now) × (length image.old ≡ 432) × (1 ≤ length ram.old) × (length ram.old ≤ 2097152) × (length pad.old ≡ 1024) }
-    ensures { (m : Machine) → Means file.now m → loaded result 0 image.new ram.new pad.new ≡ load_of m image.old ram.old pad.old }
+fn load_formed(file: &[u8], image: &mut [u8], ram: &mut [u8], pad: &mut [u8]) -> Result<(), Refusal>
+    requires lent { Lent (length image.old) (length ram.old) (length pad.old) }
+    requires long { 1472 ≤ length file.now }
+    ensures { (m : Machine) → Means file.now m → loaded (code_in result) (number_in result) image.new ram.new pad.new ≡ load_of m image.old ram.old pad.old }
 {
     if !words_formed(file, 3, 182) {
-        return 2;
+        return Err(Refusal::ImageForm);
     }
     if file.len() != 1468 + blocks_length(ram.len()) {
-        return 8;
+        return Err(Refusal::Space(0));
     }
     take_machine(file, image, ram, pad);
-    0
+    Ok(())
 }
 
-// A machine read from a file into the lent buffers: codes 1, 3, 6, 7, 2 and 8 in this order. Nothing is stored before all are tested.
+// A machine read from a file into the lent buffers, or a refusal of code 1, 3, 6, 7, 2 or 8, in this order. Nothing is stored before all
+// are tested.
+#[tactic(auto, using(crate::proofs::Calls::lent))]
+fn load(file: &[u8], image: &mut [u8], ram: &mut [u8], pad: &mut [u8]) -> Result<(), Refusal>
+    ensures { Loads file.now image.old ram.old pad.old (loaded (code_in result) (number_in result) image.new ram.new pad.new) }
+{
+    length_refusal(image.len(), ram.len(), pad.len())?;
+    match check(file) {
+        Ok(()) => load_formed(file, image, ram, pad),
+        Err(m) => Err(Refusal::File(m.0 as u64)),
+    }
+}
+
+// The same as a code and a number.
 pub fn load_machine(file: &[u8], image: &mut [u8], ram: &mut [u8], pad: &mut [u8]) -> Answer
     ensures { Loads file.now image.old ram.old pad.old (loaded result.code result.number image.new ram.new pad.new) }
 {
-    let code = length_code(image.len(), ram.len(), pad.len());
-    if code != 0 {
-        return Answer { code, number: 0 };
-    }
-    let v = check(file);
-    match v {
-        Verdict::Malformed(shared) => Answer {
-            code: 7,
-            number: shared as u64,
-        },
-        Verdict::Formed => Answer {
-            code: load_formed(file, image, ram, pad),
-            number: 0,
-        },
-    }
+    Answer::from(load(file, image, ram, pad))
 }

@@ -1,16 +1,13 @@
 -- What a check of a file answers (02, Ticket 3, refusal 7).
-use Rattle.std.specs.Prelude.{List, ◌++◌, ◌≡◌, ℕ, ◌+◌, ◌%◌, ◌≤◌, length, drop}
+use Rattle.std.specs.Prelude.{List, ◌++◌, ◌≡◌, ℕ, ◌+◌, ◌%◌, ◌≤◌, length, drop, Result, Ok, Err}
 use Rattle.saved_format.specs.Format.{field, WellFormedFile, MalformedFile}
 use Rattle.saved_format.specs.Tails.{Content, Cut, Stops}
-use Rattle.saved_check.specs.declared.Verdict.{Verdict}
-use Rattle.saved_check.specs.declared.Verdict.TheVariants as verdict
-use Rattle.saved_check.specs.declared.Step.{Step}
-use Rattle.saved_check.specs.declared.Step.TheVariants.{Past, Stop}
+use Rattle.saved_check.specs.declared.Malformed.{Malformed}
 
 -- the verdict is true of the file
-unfoldable pub Checked : List ℕ → Verdict → Type 0
-Checked file verdict.Formed = WellFormedFile file
-Checked file (verdict.Malformed n) = MalformedFile file n
+unfoldable pub Checked : List ℕ → Result Unit Malformed → Type 0
+Checked file (Ok _) = WellFormedFile file
+Checked file (Err e) = MalformedFile file e.0
 
 -- ---- from a place of the file on
 
@@ -28,11 +25,11 @@ pub record Stands (tag low high : ℕ) (f : List ℕ) (at next : ℕ) : Type 0 w
   pub ends : next ≡ at + (3 + length content)
   pub within : next ≤ length f
 
-unfoldable pub FieldAt : ℕ → ℕ → ℕ → List ℕ → ℕ → Step → Type 0
-FieldAt tag low high f at (Past next) = Stands tag low high f at next
-FieldAt tag low high f at (Stop n) = (k : ℕ) × (n ≡ at + k) × Cut tag low high (drop at f) k
+unfoldable pub FieldAt : ℕ → ℕ → ℕ → List ℕ → ℕ → Result ℕ Malformed → Type 0
+FieldAt tag low high f at (Ok next) = Stands tag low high f at next
+FieldAt tag low high f at (Err e) = (k : ℕ) × (e.0 ≡ at + k) × Cut tag low high (drop at f) k
 
 -- the verdict is true of what stands from a place on, where well formed means P
-unfoldable pub Judged : (List ℕ → Type 0) → List ℕ → ℕ → Verdict → Type 0
-Judged P f at verdict.Formed = P (drop at f)
-Judged P f at (verdict.Malformed n) = (k : ℕ) × (n ≡ at + k) × Stops P (drop at f) k
+unfoldable pub Judged : (List ℕ → Type 0) → List ℕ → ℕ → Result Unit Malformed → Type 0
+Judged P f at (Ok _) = P (drop at f)
+Judged P f at (Err e) = (k : ℕ) × (e.0 ≡ at + k) × Stops P (drop at f) k

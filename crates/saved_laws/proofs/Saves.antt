@@ -17,11 +17,11 @@ use Rattle.image.proofs.Refusals.{all_pass, none_fails, Passed, passed}
 use Rattle.saved_format.specs.Format.{Bytes}
 use Rattle.saved_format.specs.Writing.{file_of, file_length, Sized}
 use Rattle.saved_format.proofs.Deciding.{same_or_not}
-use Rattle.saved.specs.Refusals.{length_tests, length_code, lent_code}
+use Rattle.saved.specs.Refusals.{length_tests, length_code, lent_code, Lent}
 use Rattle.saved.specs.Save.{machine_in, Saved, saved, save_code, stored, save_of}
 use Rattle.saved.proofs.Words.{words_below}
 use Rattle.saved.proofs.Places.{file_long}
-use Rattle.saved.proofs.Calls.{Lent, lent}
+use Rattle.saved.proofs.Calls.{lent}
 use Rattle.saved_laws.specs.Calls.{SaveTells, RunSaves}
 
 -- ---- a save that is not refused

@@ -1,4 +1,5 @@
 -- A step keeps the machine formed, whatever it does: one law for each part of the state, and one for each effect.
+use Rattle.std.specs.Prelude.{Result, Ok, Err}
 use Prim.Native.Nat.{ℕ, zero, suc, ◌+◌, ◌*◌, ◌/◌, ◌%◌, ◌<◌}
 use native.Mathlib.Omega.{arith}
 use mathlib.Core.Bool.{Bool, true, false, cond}
@@ -13,10 +14,8 @@ use Rattle.memory.specs.Addresses.{place_of}
 use Rattle.memory.specs.Memory.{Memory}
 use Rattle.memory.specs.Stores.{store_align, store_of, memory_after}
 use Rattle.memory.specs.declared.loads.LoadKind.TheVariants as K
-use Rattle.memory.specs.declared.loads.Loaded.{Loaded}
-use Rattle.memory.specs.declared.loads.Loaded.TheVariants as L
-use Rattle.memory.specs.declared.stores.Stored.{Stored}
-use Rattle.memory.specs.declared.stores.Stored.TheVariants as S
+use Rattle.memory.specs.declared.addresses.Fault.{Fault}
+use Rattle.memory.specs.declared.addresses.Fault.TheVariants.{Bus, Address}
 use Rattle.memory.specs.declared.stores.StoreKind.{StoreKind}
 use Rattle.memory.specs.declared.stores.StoreKind.TheVariants as W
 use Rattle.cpu_decode.specs.Decode.{decode_of, rs, rt}
@@ -27,8 +26,7 @@ use Rattle.cpu_execute.specs.declared.Effect.{Effect}
 use Rattle.cpu_execute.specs.declared.Effect.TheVariants as E
 use Rattle.gte_registers.specs.Registers.{reg, write_of, WellFormed}
 use Rattle.gte.specs.Commands.{outcome_of, command_of}
-use Rattle.gte.specs.declared.Outcome.{Outcome}
-use Rattle.gte.specs.declared.Outcome.TheVariants as O
+use Rattle.gte.specs.declared.Unlisted.{Unlisted}
 use Rattle.gte_laws.proofs.Formed.{write_formed, command_formed}
 use Rattle.cpu_state.specs.System.{user_of, usable_of, read_system_of, with_sr, with_cause, write_system_of, restored_of, none}
 use Rattle.cpu_state.specs.Exceptions.{in_slot, raised_system, raised_of, with_bad_address}
@@ -159,15 +157,15 @@ geometry_formed_lem s w g h =
     next_formed (state s.control s.registers w s.memory)
     (record { registers = g.registers; pending = g.pending; slot = g.slot; system = g.system; geometry = h })
 
-load_formed : (s : State) → StateFormed s → (f : ℕ → State) → ((x : ℕ) → StateFormed (f x)) → (a : ℕ) (l : Loaded) → StateFormed (after_load f a s l)
-load_formed s g f h a (L.Value x) = h x
-load_formed s g f h a L.Bus = trap_formed s g 7 0
-load_formed s g f h a L.Address = fault_formed s g 4 a
+load_formed : (s : State) → StateFormed s → (f : ℕ → State) → ((x : ℕ) → StateFormed (f x)) → (a : ℕ) (l : Result ℕ Fault) → StateFormed (after_load f a s l)
+load_formed s g f h a (Ok x) = h x
+load_formed s g f h a (Err Bus) = trap_formed s g 7 0
+load_formed s g f h a (Err Address) = fault_formed s g 4 a
 
-store_formed : (s : State) → StateFormed s → (a : ℕ) (o : Stored) → StateFormed (after_store a s o)
-store_formed s g a S.Done = next_formed s g
-store_formed s g a S.Bus = trap_formed s g 7 0
-store_formed s g a S.Address = fault_formed s g 5 a
+store_formed : (s : State) → StateFormed s → (a : ℕ) (o : Result (Unit {0}) Fault) → StateFormed (after_store a s o)
+store_formed s g a (Ok x) = next_formed s g
+store_formed s g a (Err Bus) = trap_formed s g 7 0
+store_formed s g a (Err Address) = fault_formed s g 5 a
 
 stored_formed : (s : State) → StateFormed s → (k : StoreKind) (x a : ℕ) → StateFormed (store_step k x a s)
 unfolding store_step
@@ -175,9 +173,9 @@ stored_formed s g k x a =
     let at = place_of a (store_align k) (user_of s.control.system) (length s.memory.ram) in
     store_formed (state s.control s.registers s.geometry (memory_after k s.memory x at)) (memory_formed s (memory_after k s.memory x at) g) a (store_of at)
 
-after_formed : (o : Outcome) (word : ℕ) (s : State) → StateFormed s → StateFormed (after_command o word s).after
-after_formed O.Done word s g = geometry_formed_lem s (command_of word s.geometry) g (command_formed word s.geometry g.geometry)
-after_formed O.Unlisted word s g = g
+after_formed : (o : Result (Unit {0}) Unlisted) (word : ℕ) (s : State) → StateFormed s → StateFormed (after_command o word s).after
+after_formed (Ok x) word s g = geometry_formed_lem s (command_of word s.geometry) g (command_formed word s.geometry g.geometry)
+after_formed (Err e) word s g = g
 
 perform_formed : (e : Effect) (s : State) → StateFormed s → StateFormed (perform_of command_step e s).after
 unfolding perform_of load_step load_geometry_step
@@ -210,10 +208,10 @@ issue_formed word s g = by_test (usable_of (owner_of word) s.control.system) whe
   by_test true = perform_formed (effect_of word s) s g
   by_test false = trap_formed s g 11 (number_of (owner_of word))
 
-fetch_formed : (s : State) → StateFormed s → (l : Loaded) → StateFormed (after_fetch s l).after
-fetch_formed s g (L.Value word) = issue_formed word s g
-fetch_formed s g L.Bus = trap_formed s g 6 0
-fetch_formed s g L.Address = fault_formed s g 4 s.control.flow.pc
+fetch_formed : (s : State) → StateFormed s → (l : Result ℕ Fault) → StateFormed (after_fetch s l).after
+fetch_formed s g (Ok word) = issue_formed word s g
+fetch_formed s g (Err Bus) = trap_formed s g 6 0
+fetch_formed s g (Err Address) = fault_formed s g 4 s.control.flow.pc
 
 pub step_formed : StepFormed
 unfolding step_of

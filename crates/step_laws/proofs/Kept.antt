@@ -1,4 +1,5 @@
 -- What a step keeps of lent memory: each part keeps its length. And a step that stops changes nothing.
+use Rattle.std.specs.Prelude.{Result, Ok, Err}
 use Prim.Native.Nat.{ℕ, ◌-◌, ◌*◌, ◌/◌, ◌%◌}
 use native.Mathlib.Omega.{arith}
 use mathlib.Core.Bool.{Bool, true, false, cond}
@@ -15,10 +16,8 @@ use Rattle.memory.specs.Stores.{store_align, store_of, memory_after}
 use Rattle.memory.specs.declared.addresses.Place.{Place}
 use Rattle.memory.specs.declared.addresses.Place.TheVariants as P
 use Rattle.memory.specs.declared.loads.LoadKind.TheVariants as K
-use Rattle.memory.specs.declared.loads.Loaded.{Loaded}
-use Rattle.memory.specs.declared.loads.Loaded.TheVariants as L
-use Rattle.memory.specs.declared.stores.Stored.{Stored}
-use Rattle.memory.specs.declared.stores.Stored.TheVariants as S
+use Rattle.memory.specs.declared.addresses.Fault.{Fault}
+use Rattle.memory.specs.declared.addresses.Fault.TheVariants.{Bus, Address}
 use Rattle.memory.specs.declared.stores.StoreKind.{StoreKind}
 use Rattle.memory.specs.declared.stores.StoreKind.TheVariants as W
 use Rattle.cpu_decode.specs.Owners.{number_of, owner_of}
@@ -26,8 +25,7 @@ use Rattle.cpu_execute.specs.declared.Effect.{Effect}
 use Rattle.cpu_execute.specs.declared.Effect.TheVariants as E
 use Rattle.gte_registers.specs.Registers.{reg, write_of}
 use Rattle.gte.specs.Commands.{outcome_of, command_of}
-use Rattle.gte.specs.declared.Outcome.{Outcome}
-use Rattle.gte.specs.declared.Outcome.TheVariants as O
+use Rattle.gte.specs.declared.Unlisted.{Unlisted}
 use Rattle.cpu_state.specs.System.{user_of, usable_of, read_system_of}
 use Rattle.cpu_state.specs.State.{State, state}
 use Rattle.cpu_effects.specs.Delay.{current_of}
@@ -48,11 +46,10 @@ written_long W.Word m at x = length_set_words m at _
 written_long W.Left m at x = length-sets m (at / 4 * 4) (drop (3 - at % 4) (M.bytes4 x))
 written_long W.Right m at x = length-sets m at (take (4 - at % 4) (M.bytes4 x))
 
-memory_long : (k : StoreKind) (m : Memory) (x : ℕ) (at : Place) → SameLengths (memory_after k m x at) m
-memory_long k m x (P.Ram p) = record { ram = written_long k m.ram p.0 x; pad = refl }
-memory_long k m x (P.Pad p) = record { ram = refl; pad = written_long k m.pad (pad_at p) x }
-memory_long k m x P.Bus = same m
-memory_long k m x P.Address = same m
+memory_long : (k : StoreKind) (m : Memory) (x : ℕ) (at : Result Place Fault) → SameLengths (memory_after k m x at) m
+memory_long k m x (Ok (P.Ram p)) = record { ram = written_long k m.ram p.0 x; pad = refl }
+memory_long k m x (Ok (P.Pad p)) = record { ram = refl; pad = written_long k m.pad (pad_at p) x }
+memory_long k m x (Err e) = same m
 
 -- memory after a state is memory before it, in length
 abbrev Keeps : State → State → Type 0
@@ -70,15 +67,15 @@ fault_long : (code a : ℕ) (s : State) → Keeps (fault_step code a s) s
 unfolding fault_step trap_step
 fault_long code a s = same _
 
-load_long : (s : State) (f : ℕ → State) → ((x : ℕ) → Keeps (f x) s) → (a : ℕ) (l : Loaded) → Keeps (after_load f a s l) s
-load_long s f h a (L.Value x) = h x
-load_long s f h a L.Bus = trap_long 7 0 s
-load_long s f h a L.Address = fault_long 4 a s
+load_long : (s : State) (f : ℕ → State) → ((x : ℕ) → Keeps (f x) s) → (a : ℕ) (l : Result ℕ Fault) → Keeps (after_load f a s l) s
+load_long s f h a (Ok x) = h x
+load_long s f h a (Err Bus) = trap_long 7 0 s
+load_long s f h a (Err Address) = fault_long 4 a s
 
-store_long : (s : State) (a : ℕ) (o : Stored) → Keeps (after_store a s o) s
-store_long s a S.Done = next_long s
-store_long s a S.Bus = trap_long 7 0 s
-store_long s a S.Address = fault_long 5 a s
+store_long : (s : State) (a : ℕ) (o : Result (Unit {0}) Fault) → Keeps (after_store a s o) s
+store_long s a (Ok x) = next_long s
+store_long s a (Err Bus) = trap_long 7 0 s
+store_long s a (Err Address) = fault_long 5 a s
 
 stored_long : (s : State) (k : StoreKind) (x a : ℕ) → Keeps (store_step k x a s) s
 unfolding store_step
@@ -105,9 +102,9 @@ wait_long n v s = same _
 geometry_long : (w : List ℕ) (s : State) → Keeps (geometry_step w s) s
 geometry_long w s = next_long (state s.control s.registers w s.memory)
 
-command_kept : (o : Outcome) (word : ℕ) (s : State) → Kept (after_command o word s) s
-command_kept O.Done word s = going _ s (geometry_long (command_of word s.geometry) s)
-command_kept O.Unlisted word s = record { long = same _; stays = λ h. refl }
+command_kept : (o : Result (Unit {0}) Unlisted) (word : ℕ) (s : State) → Kept (after_command o word s) s
+command_kept (Ok x) word s = going _ s (geometry_long (command_of word s.geometry) s)
+command_kept (Err e) word s = record { long = same _; stays = λ h. refl }
 
 perform_kept : (e : Effect) (s : State) → Kept (perform_of command_step e s) s
 unfolding perform_of write_step jump_step link_step product_step system_step load_step load_geometry_step
@@ -135,10 +132,10 @@ issue_kept word s = by_test (usable_of (owner_of word) s.control.system) where
   by_test true = perform_kept (effect_of word s) s
   by_test false = going _ s (trap_long 11 (number_of (owner_of word)) s)
 
-fetch_kept : (s : State) (l : Loaded) → Kept (after_fetch s l) s
-fetch_kept s (L.Value word) = issue_kept word s
-fetch_kept s L.Bus = going _ s (trap_long 6 0 s)
-fetch_kept s L.Address = going _ s (fault_long 4 s.control.flow.pc s)
+fetch_kept : (s : State) (l : Result ℕ Fault) → Kept (after_fetch s l) s
+fetch_kept s (Ok word) = issue_kept word s
+fetch_kept s (Err Bus) = going _ s (trap_long 6 0 s)
+fetch_kept s (Err Address) = going _ s (fault_long 4 s.control.flow.pc s)
 
 pub step_kept : StepKept
 unfolding step_of

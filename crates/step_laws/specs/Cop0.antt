@@ -1,5 +1,5 @@
 -- Cop0 bit by bit: each bit of the words that the definitions build by arithmetic is the bit of 01's sentence.
-use Rattle.std.specs.Prelude.{Bool, false, ◌&&◌, ◌≡◌, ℕ, ◌+◌, ◌<◌, ◌≤◌}
+use Rattle.std.specs.Prelude.{Bool, false, ◌&&◌, ◌≡◌, ℕ, ◌+◌, ◌<◌}
 use Rattle.words.specs.Words.{bit_at}
 use Rattle.cpu_state.specs.System.{write_system_of, restored_of}
 use Rattle.cpu_state.specs.Exceptions.{in_slot, raised_system}

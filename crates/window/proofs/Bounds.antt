@@ -1,20 +1,22 @@
 -- A window lies in its memory, and is what is asked of it byte by byte.
 use Prim.Native.Nat.{ℕ, ◌+◌, ◌-◌, ◌/◌, ◌%◌, ◌<◌, ◌≤◌}
 use mathlib.Core.Bool.{Bool, true, false, cond, ◌&&◌, and-eq-true_iff}
-use mathlib.Core.Path.{◌≡◌, refl, sym, ap, ◌∙◌}
+use mathlib.Core.Path.{◌≡◌, refl, sym, ◌∙◌}
 use native.Mathlib.Omega.{arith}
 use lib.Dec.{ltb, leb}
 use borrow.Author.Tests.{eqb-true, leb-true, leb-false, le-leb, lt-ltb, le-ltb}
 use Rattle.memory.specs.Addresses.{ram_length, mapped, pad_mapped, in_pad, beyond_ram, segment_of, physical_of, pad_at, pad_base, pad_length}
 use Rattle.memory.specs.declared.addresses.Phys.{Phys}
 use Rattle.memory.specs.declared.addresses.Place.{Place}
-use Rattle.memory.specs.declared.addresses.Place.TheVariants.{Ram, Pad, Bus, Address}
+use Rattle.memory.specs.declared.addresses.Place.TheVariants.{Ram, Pad}
+use Rattle.memory.specs.declared.addresses.Fault.{Fault}
+use Rattle.std.specs.Prelude.{Result, Ok, Err}
 use Rattle.memory.proofs.Places as places
 use Rattle.window.specs.Window.{part, nothing, part_from, part_at, good_lengths, part_of, chosen, AllInRam, AllInPad, NotEmpty, WindowExact}
 use Rattle.window.specs.declared.Part.{Part}
 
 differ : {A : Type 0} → ◌≡◌ {A = Bool} true false → A
-differ z = let n : ◌≡◌ {A = ℕ} 0 1 = ap (λ (b : Bool). cond b 0 1) z in absurd (omega arith)
+differ z = cc
 
 -- ---- good lengths
 record Good (ram pad : ℕ) : Type 0 where
@@ -90,18 +92,18 @@ InPad a = In pad_mapped pad_base pad_end a
 by_one : (a : ℕ) → a % 1 ≡ 0
 by_one a = omega arith
 
-in_ram : (a len : ℕ) (p : Phys) → segment_of a len ≡ Ram p → (p.0 ≡ a % 0x2000_0000) × InRam len a
+in_ram : (a len : ℕ) (p : Phys) → segment_of a len ≡ Ok (Ram p) → (p.0 ≡ a % 0x2000_0000) × InRam len a
 in_ram a len p e =
     let t : places.InRam a 1 len p = rw e at (places.segment_tells a 1 len (by_one a)) in
     (t.is, record { segment = t.reached; above = omega arith; below = rw (← t.is) t.below })
 
-in_pad_lem : (a len : ℕ) (p : Phys) → segment_of a len ≡ Pad p → (p.0 ≡ a % 0x2000_0000) × InPad a
+in_pad_lem : (a len : ℕ) (p : Phys) → segment_of a len ≡ Ok (Pad p) → (p.0 ≡ a % 0x2000_0000) × InPad a
 in_pad_lem a len p e =
-    let b : places.Beyond a 1 (Pad p) = rw e at (places.segment_tells a 1 len (by_one a)) in
+    let b : places.Beyond a 1 (Ok (Pad p)) = rw e at (places.segment_tells a 1 len (by_one a)) in
     let t = places.in_pad_lem a p b.is in
     (t.is, record { segment = t.reached; above = rw (← t.is) t.above; below = rw (← t.is) t.below })
 
-is_in_ram : (a len : ℕ) → InRam len a → segment_of a len ≡ Ram (physical_of a)
+is_in_ram : (a len : ℕ) → InRam len a → segment_of a len ≡ Ok (Ram (physical_of a))
 unfolding segment_of
 is_in_ram a len s = rw (s.segment, lt-ltb _ _ s.below)
 
@@ -109,7 +111,7 @@ not_in_ram : (b : Bool) (x len : ℕ) → len ≤ x → (b && ltb x len) ≡ fal
 not_in_ram true x len h = le-ltb _ _ h
 not_in_ram false x len h = refl
 
-is_in_pad : (a len : ℕ) → len ≤ 2097152 → InPad a → segment_of a len ≡ Pad (physical_of a)
+is_in_pad : (a len : ℕ) → len ≤ 2097152 → InPad a → segment_of a len ≡ Ok (Pad (physical_of a))
 unfolding segment_of beyond_ram in_pad
 is_in_pad a len m s =
     let l : len ≤ a % 0x2000_0000 = omega (arith, s.above) in
@@ -132,20 +134,23 @@ unfolding part_from
 from_inside side at n len ram pad h m q = from_by (leb n (len - at)) side at n len ram pad refl h m q
 
 -- the place of a part is no further than its memory's end
-pub ram_place : (a len : ℕ) (p : Phys) → segment_of a len ≡ Ram p → p.0 ≤ len
+pub ram_place : (a len : ℕ) (p : Phys) → segment_of a len ≡ Ok (Ram p) → p.0 ≤ len
 ram_place a len p e = let s = in_ram a len p e in omega (arith, s.0, s.1.below)
 
-pub pad_base_lem : (a len : ℕ) (p : Phys) → segment_of a len ≡ Pad p → pad_base ≤ p.0
+pub pad_base_lem : (a len : ℕ) (p : Phys) → segment_of a len ≡ Ok (Pad p) → pad_base ≤ p.0
 pad_base_lem a len p e = let s = in_pad_lem a len p e in omega (arith, s.0, s.1.above)
 
-pub pad_place : (a len : ℕ) (p : Phys) → segment_of a len ≡ Pad p → pad_at p ≤ pad_length
+pub pad_place : (a len : ℕ) (p : Phys) → segment_of a len ≡ Ok (Pad p) → pad_at p ≤ pad_length
 pad_place a len p e = let s = in_pad_lem a len p e in omega (arith, s.0, s.1.below)
 
-at_by : (q : Place) (a n ram pad : ℕ) → segment_of a ram ≡ q → Good ram pad → Inside (part_at q n ram) ram pad
-at_by (Ram p) a n ram pad e g = from_inside false p.0 n ram ram pad (ram_place a ram p e) g.most refl
-at_by (Pad p) a n ram pad e g = from_inside true (pad_at p) n pad_length ram pad (pad_place a ram p e) (omega arith) (sym g.whole)
-at_by Bus a n ram pad e g = none_inside ram pad
-at_by Address a n ram pad e g = none_inside ram pad
+at_by : (q : Result Place Fault) (a n ram pad : ℕ) → segment_of a ram ≡ q → Good ram pad → Inside (part_at q n ram) ram pad
+at_by (Ok (Ram p)) a n ram pad e g = from_inside false p.0 n ram ram pad (ram_place a ram p e) g.most refl
+at_by (Ok (Pad p)) a n ram pad e g = from_inside true (pad_at p) n pad_length ram pad (pad_place a ram p e) (omega arith) (sym g.whole)
+at_by (Err f) a n ram pad e g = none_inside ram pad
+
+-- what a part ensures that is found at a place
+pub placed : (q : Result Place Fault) (a n ram pad : ℕ) (r : Part) → segment_of a ram ≡ q → good_lengths ram pad ≡ true → r ≡ part_at q n ram → Inside r ram pad
+placed q a n ram pad r e g p = rw p (at_by q a n ram pad e (good ram pad g))
 
 part_by : (b : Bool) (a n ram pad : ℕ) → good_lengths ram pad ≡ b → Inside (cond b (part_at (segment_of a ram) n ram) nothing) ram pad
 part_by true a n ram pad e = at_by (segment_of a ram) a n ram pad refl (good ram pad e)
@@ -155,18 +160,14 @@ pub part_inside : (a n ram pad : ℕ) → Inside (part_of a n ram pad) ram pad
 unfolding part_of
 part_inside a n ram pad = part_by (good_lengths ram pad) a n ram pad refl
 
--- what a function that answers the part ensures
-pub answered : (r : Part) (a n ram pad : ℕ) → r ≡ part_of a n ram pad → (r ≡ part_of a n ram pad) × ((r.at + r.length ≤ chosen r ram pad) × (r.at + r.length ≤ 2097152))
-answered r a n ram pad e = (e, (rw e (part_inside a n ram pad).within, rw e (part_inside a n ram pad).small))
-
 -- ---- empty exactly when
 from_only : (b side : Bool) (at n len : ℕ) → leb n (len - at) ≡ b → 0 < (cond b (part side at n) nothing).length → (0 < n) × ((n ≤ len - at) × ((cond b (part side at n) nothing).pad ≡ side))
 from_only true side at n len e h = (h, (leb-true n (len - at) e, refl))
 from_only false side at n len e h = absurd (omega arith)
 
-at_only : (q : Place) (a n ram pad : ℕ) → segment_of a ram ≡ q → a < 0x1_0000_0000 → ram ≤ 2097152 → good_lengths ram pad ≡ true → 0 < (part_at q n ram).length → NotEmpty (part_at q n ram) a n ram pad
+at_only : (q : Result Place Fault) (a n ram pad : ℕ) → segment_of a ram ≡ q → a < 0x1_0000_0000 → ram ≤ 2097152 → good_lengths ram pad ≡ true → 0 < (part_at q n ram).length → NotEmpty (part_at q n ram) a n ram pad
 unfolding part_from
-at_only (Ram p) a n ram pad e f m ok h =
+at_only (Ok (Ram p)) a n ram pad e f m ok h =
     let s = in_ram a ram p e in
     let o = from_only (leb n (ram - p.0)) false p.0 n ram refl h in
     let l : n ≤ ram - a % 0x2000_0000 = omega (arith, o.1.0, s.0) in
@@ -176,7 +177,7 @@ at_only (Ram p) a n ram pad e f m ok h =
       in_ram = λ z i lt. is_in_ram _ ram (each mapped 0 ram a n mapped_top f (omega arith) s.1 l i lt);
       in_pad = λ z. differ (sym z ∙ o.1.1);
     }
-at_only (Pad p) a n ram pad e f m ok h =
+at_only (Ok (Pad p)) a n ram pad e f m ok h =
     let s = in_pad_lem a ram p e in
     let o = from_only (leb n (pad_length - pad_at p)) true (pad_at p) n pad_length refl h in
     let l : n ≤ pad_end - a % 0x2000_0000 = omega (arith, o.1.0, s.0, s.1.above) in
@@ -186,8 +187,7 @@ at_only (Pad p) a n ram pad e f m ok h =
       in_ram = λ z. differ (sym o.1.1 ∙ z);
       in_pad = λ z i lt. is_in_pad _ ram m (each pad_mapped pad_base pad_end a n pad_top f (omega arith) s.1 l i lt);
     }
-at_only Bus a n ram pad e f m ok h = absurd (omega arith)
-at_only Address a n ram pad e f m ok h = absurd (omega arith)
+at_only (Err u) a n ram pad e f m ok h = absurd (omega arith)
 
 part_only : (b : Bool) (a n ram pad : ℕ) → good_lengths ram pad ≡ b → a < 0x1_0000_0000 → 0 < (cond b (part_at (segment_of a ram) n ram) nothing).length → NotEmpty (cond b (part_at (segment_of a ram) n ram) nothing) a n ram pad
 part_only true a n ram pad e f h = at_only (segment_of a ram) a n ram pad refl f (good ram pad e).most e h

@@ -1,10 +1,11 @@
 -- The window over lent memory (01 "The run and its numbers"; 02, Ticket 1): a part of RAM or of the scratch pad itself, empty exactly
 -- when the length is 0, a buffer's length is bad, or the range is not wholly in one of them.
-use Rattle.std.specs.Prelude.{Bool, true, false, cond, ◌&&◌, List, ◌≡◌, ℕ, ◌+◌, ◌-◌, ◌%◌, ◌<◌, eqb, leb, length, take, drop}
+use Rattle.std.specs.Prelude.{Bool, true, false, cond, ◌&&◌, List, ◌≡◌, ℕ, ◌+◌, ◌-◌, ◌%◌, ◌<◌, eqb, leb, length, take, drop, Result, Ok, Err}
 use Rattle.memory.specs.Addresses.{ram_length, pad_base, pad_length, pad_at, segment_of, physical_of}
 use Rattle.memory.specs.Memory.{Memory}
 use Rattle.memory.specs.declared.addresses.Place.{Place}
-use Rattle.memory.specs.declared.addresses.Place.TheVariants.{Ram, Pad, Bus, Address}
+use Rattle.memory.specs.declared.addresses.Place.TheVariants.{Ram, Pad}
+use Rattle.memory.specs.declared.addresses.Fault.{Fault}
 use Rattle.window.specs.declared.Part.{Part}
 
 abbrev pub part : Bool → ℕ → ℕ → Part
@@ -17,11 +18,10 @@ nothing = part false 0 0
 unfoldable pub part_from : Bool → ℕ → ℕ → ℕ → Part
 part_from pad at n len = cond (leb n (len - at)) (part pad at n) nothing
 
-abbrev pub part_at : Place → ℕ → ℕ → Part
-part_at (Ram p) n len = part_from false p.0 n len
-part_at (Pad p) n len = part_from true (pad_at p) n pad_length
-part_at Bus n len = nothing
-part_at Address n len = nothing
+abbrev pub part_at : Result Place Fault → ℕ → ℕ → Part
+part_at (Ok (Ram p)) n len = part_from false p.0 n len
+part_at (Ok (Pad p)) n len = part_from true (pad_at p) n pad_length
+part_at (Err e) n len = nothing
 
 -- lengths of RAM and pad that are run
 abbrev pub good_lengths : ℕ → ℕ → Bool
@@ -43,10 +43,10 @@ bytes_in p m = take p.length (drop p.at (chosen p m.ram m.pad))
 
 -- ---- what is asked of it, byte by byte: addresses go modulo 2^32
 abbrev pub AllInRam : ℕ → ℕ → ℕ → Type 0
-AllInRam a n ram = (i : ℕ) → i < n → segment_of ((a + i) % 0x1_0000_0000) ram ≡ Ram (physical_of ((a + i) % 0x1_0000_0000))
+AllInRam a n ram = (i : ℕ) → i < n → segment_of ((a + i) % 0x1_0000_0000) ram ≡ Ok (Ram (physical_of ((a + i) % 0x1_0000_0000)))
 
 abbrev pub AllInPad : ℕ → ℕ → ℕ → Type 0
-AllInPad a n ram = (i : ℕ) → i < n → segment_of ((a + i) % 0x1_0000_0000) ram ≡ Pad (physical_of ((a + i) % 0x1_0000_0000))
+AllInPad a n ram = (i : ℕ) → i < n → segment_of ((a + i) % 0x1_0000_0000) ram ≡ Ok (Pad (physical_of ((a + i) % 0x1_0000_0000)))
 
 -- what a part that is not empty tells
 pub record NotEmpty (p : Part) (a n ram pad : ℕ) : Type 0 where

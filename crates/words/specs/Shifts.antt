@@ -2,7 +2,7 @@
 use Rattle.std.specs.Prelude.{ℕ, ◌%◌, ◌^◌}
 use Rattle.std.specs.Int.Signed.{shr_z}
 use Rattle.std.specs.Int.{w32}
-use mir.Val.{bits, to_z, of_z}
+use mir.Val.{to_z, of_z}
 
 -- SRA and SRAV, 01 "SRA and the signed product keep the sign": the signed value divided by a power of two, rounded down.
 -- The amount is the low five bits.

@@ -8,46 +8,28 @@ ghost use Rattle.words.specs.Words.{low_signed, high_half, sign_extend, zero_ext
 pub fn to_signed(x: u32) -> i32
     ensures { result ≡ to_z w32 x }
 {
-    if x < 0x8000_0000 {
-        x as i32
-    } else {
-        ((x as i64) - 0x1_0000_0000) as i32
-    }
+    x.cast_signed()
 }
 
 // The bits of a signed word.
 pub fn to_bits(x: i32) -> u32
     ensures { result ≡ of_z w32 x }
 {
-    if x < 0 {
-        ((x as i64) + 0x1_0000_0000) as u32
-    } else {
-        x as u32
-    }
+    x.cast_unsigned()
 }
 
 // The low byte, signed.
 fn low_byte(x: u32) -> i8
     ensures { result ≡ low_signed w8 x }
 {
-    let b = x % 0x100;
-    if b < 0x80 {
-        b as i8
-    } else {
-        ((b as i32) - 0x100) as i8
-    }
+    ((x % 0x100) as u8).cast_signed()
 }
 
 // The low half, signed.
 pub fn low_half(x: u32) -> i16
     ensures { result ≡ low_signed w16 x }
 {
-    let h = x % 0x1_0000;
-    if h < 0x8000 {
-        h as i16
-    } else {
-        ((h as i32) - 0x1_0000) as i16
-    }
+    ((x % 0x1_0000) as u16).cast_signed()
 }
 
 // The high half, signed.
@@ -61,14 +43,14 @@ pub fn high_half(x: u32) -> i16
 pub fn sign_extend_8(x: u32) -> u32
     ensures { result ≡ sign_extend w8 x }
 {
-    to_bits(low_byte(x) as i32)
+    to_bits(i32::from(low_byte(x)))
 }
 
 // The low half with its sign, as a word (LH, 16-bit immediates, the signed 16-bit registers of COP2).
 pub fn sign_extend_16(x: u32) -> u32
     ensures { result ≡ sign_extend w16 x }
 {
-    to_bits(low_half(x) as i32)
+    to_bits(i32::from(low_half(x)))
 }
 
 // The low half with zeros above it (the unsigned 16-bit registers of COP2).

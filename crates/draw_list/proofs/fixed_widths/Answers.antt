@@ -1,5 +1,4 @@
 -- The table and its definition compute to the same 256 bytes.
-use borrow.Author.Rules.{rules}
 use mathlib.Core.Path.{refl}
 use Rattle.draw_list.specs.Packets.{packets, shape_of}
 use Rattle.draw_list.specs.Widths.{fixed_of, fixed_from}

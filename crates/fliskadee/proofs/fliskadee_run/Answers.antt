@@ -4,4 +4,4 @@ use Rattle.fliskadee.proofs.Answers.{find_run}
 use Rattle.fliskadee.proofs.fliskadee_run.Goals as goal
 
 pub returns : goal.returns
-returns c = c.run_with.ensures ∙ find_run _ _ _
+returns c = rw c.packed.ensures (c.run_with.ensures.is ∙ find_run _ _ _)

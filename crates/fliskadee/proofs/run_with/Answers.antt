@@ -1,28 +1,27 @@
--- A refused call answers its number before anything is written; else the machine runs and its image is written.
+-- A refused call changes nothing; else the machine runs and its image is written.
 use native.Mathlib.Omega.{arith}
-use mathlib.Core.Path.{refl, sym, ◌∙◌}
+use mathlib.Core.Path.{sym}
+use Rattle.std.proofs.lemmas.Result.{err_from_is_err_and}
 use Rattle.fliskadee.specs.Find.{find_of}
-use Rattle.image.proofs.Refusals.{passed, accepted_first, code_small, machine_of_lem}
+use Rattle.image.proofs.Refusals.{passed, accepted_first, machine_read}
 use Rattle.fliskadee.proofs.Refused.{refused_is, code_is}
-use borrow.Author.Rules.{rules}
 use Rattle.fliskadee.proofs.run_with.Goals as goal
 
-pub overflow_mul-result : goal.overflow_mul-result
-overflow_mul-result c = let h = code_small _ _ _ _ (code_is _ _ _ _ _ c.read_image-a.ensures c.refusal-code.ensures) in search rules
-
-pub returns-then-code-ne0 : goal.returns-then-code-ne0
-unfolding find_of
-returns-then-code-ne0 c = rw (← code_is _ _ _ _ _ c.read_image-a.ensures c.refusal-code.ensures) (refused_is _ _ _ _ _ c.if-code-ne0.true refl)
+pub returns-in_err-refusal-clause-is : goal.returns-in_err-refusal-clause-is
+returns-in_err-refusal-clause-is c = let p = err_from_is_err_and c.from_residual.result c.from_residual.ensures.1 in
+    rw (p.1, p.2) (refused_is _ _ _ _ _ (code_is _ _ _ _ _ c.read_image-a.ensures.refusal c.in_err-refusal.ensures))
 
 pub run_until-d-requires : goal.run_until-d-requires
-run_until-d-requires c = (passed _ _ _ (sym (code_is _ _ _ _ _ c.read_image-a.ensures c.refusal-code.ensures) ∙ c.if-code-ne0.false)).memory
+run_until-d-requires c = (passed _ _ _ (sym (code_is _ _ _ _ _ c.read_image-a.ensures.refusal c.in_ok-refusal.ensures))).memory
 
 pub write_image-requires : goal.write_image-requires
-write_image-requires c = (passed _ _ _ (sym (code_is _ _ _ _ _ c.read_image-a.ensures c.refusal-code.ensures) ∙ c.if-code-ne0.false)).long
+write_image-requires c = (passed _ _ _ (sym (code_is _ _ _ _ _ c.read_image-a.ensures.refusal c.in_ok-refusal.ensures))).long
 
-pub overflow_add-result : goal.overflow_add-result
-overflow_add-result c = let h = (passed _ _ _ (sym (code_is _ _ _ _ _ c.read_image-a.ensures c.refusal-code.ensures) ∙ c.if-code-ne0.false)).most in omega (arith, c.run_until-d.ensures.within, c.run_until-d.ensures.small)
+pub returns-clause-most : goal.returns-clause-most
+returns-clause-most c = let h = (passed _ _ _ (sym (code_is _ _ _ _ _ c.read_image-a.ensures.refusal c.in_ok-refusal.ensures))).most in omega (arith, c.run_until-d.ensures.within)
 
-pub returns : goal.returns
+pub returns-clause-is : goal.returns-clause-is
 unfolding find_of
-returns c = rw (sym (code_is _ _ _ _ _ c.read_image-a.ensures c.refusal-code.ensures) ∙ c.if-code-ne0.false, ← machine_of_lem _ _ _ c.read_image-a.ensures (accepted_first _ _ _ (sym (code_is _ _ _ _ _ c.read_image-a.ensures c.refusal-code.ensures) ∙ c.if-code-ne0.false)), ← c.run_until-d.ensures.is, c.write_image.ensures)
+returns-clause-is c = let a = c.read_image-a.ensures in
+    let z = sym (code_is _ _ _ _ _ a.refusal c.in_ok-refusal.ensures) in
+    rw (z, ← machine_read _ _ _ _ _ a.control a.registers a.geometry (accepted_first _ _ _ z), ← c.run_until-d.ensures.is, c.write_image.ensures)

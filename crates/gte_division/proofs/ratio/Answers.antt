@@ -27,12 +27,6 @@ shifted h sz k l =
       less = n;
     }
 
-below : (x : ℕ) → x < 0x2_0000 → x ≡ min 0x1_ffff x
-below x h = omega arith
-
-above : (x : ℕ) → 0x2_0000 ≤ x → 0x1_ffff ≡ min 0x1_ffff x
-above x h = omega arith
-
 -- what is cut
 is : (h sz r : ℕ)
     → sz < 65536
@@ -49,10 +43,9 @@ pub reciprocal-requires : goal.reciprocal-requires
 reciprocal-requires c =
     let at = shifted c.args.h c.args.sz c.requires.0 c.requires.1 in rw (zeros_16 c.args.sz c.requires.0, at.divisor) at.top
 
-pub returns-then-q-lt131072-clause-is : goal.returns-then-q-lt131072-clause-is
-returns-then-q-lt131072-clause-is c =
-    below _ c.if-q-lt131072.true ∙ is c.args.h c.args.sz c.reciprocal.result c.requires.0 c.requires.1 c.reciprocal.ensures.is
+flip : (x : ℕ) → min x 0x1_ffff ≡ min 0x1_ffff x
+flip x = omega arith
 
-pub returns-else-q-lt131072-clause-is : goal.returns-else-q-lt131072-clause-is
-returns-else-q-lt131072-clause-is c =
-    above _ c.if-q-lt131072.false ∙ is c.args.h c.args.sz c.reciprocal.result c.requires.0 c.requires.1 c.reciprocal.ensures.is
+pub returns-clause-is : goal.returns-clause-is
+returns-clause-is c =
+    c.min.ensures ∙ flip _ ∙ rw (c.from.ensures, c.from-2.ensures) (is c.args.h c.args.sz c.reciprocal.result c.requires.0 c.requires.1 c.reciprocal.ensures.is)

@@ -1,37 +1,35 @@
 -- The three cells, whose flags are those of the line's checks.
+use borrow.Author.Rules.{rules}
 use mathlib.Core.Path.{◌≡◌}
 use mathlib.Core.Bool.{Bool}
-use mir.Syntax.{w16, w32, w64}
-use Rattle.integers.specs.Bound.{back}
+use mir.Syntax.{w16, w32}
+use mir.Val.{to_z, of_z}
 use Rattle.gte_arithmetic.specs.Checks.{or, flags}
 use Rattle.gte_arithmetic.specs.Values.{sum_flag}
-use Rattle.gte_line.specs.Line.{cell_of, line_of, line_checks_at}
-use Rattle.gte_arithmetic.specs.declared.values.Wide.{Wide}
+use Rattle.gte_arithmetic.specs.Triples.{Wide}
+use Rattle.gte_arithmetic.specs.declared.values.Line.{Line}
 use Rattle.gte_arithmetic.proofs.Flags.{or_assoc, or_none}
+use Rattle.gte_line.specs.Line.{cell_of, line_of, line_checks_at}
+use Rattle.gte_line.specs.declared.Cell.{Cell}
 use Rattle.gte_line.proofs.finish.Goals as goal
 
-joined : (sf lm : Bool) (s : Wide)
-    → let a = cell_of sf lm 0x4000_0000 0x800_0000 0x100_0000 s.x in
-    let b = cell_of sf lm 0x2000_0000 0x400_0000 0x80_0000 s.y in
-    let c = cell_of sf lm 0x1000_0000 0x200_0000 0x40_0000 s.z in
-    record { mac = record { x = a.mac; y = b.mac; z = c.mac }; ir = record { x = a.ir; y = b.ir; z = c.ir }; flag = or a.flag (or b.flag c.flag) } ≡ line_of sf lm s
+abbrev line : Cell → Cell → Cell → Line
+line a b c = record { mac = record { x = a.mac; y = b.mac; z = c.mac }; ir = record { x = a.ir; y = b.ir; z = c.ir }; flag = or (or a.flag b.flag) c.flag }
+
+joined : (sf lm : Bool) (s : Wide) (a b c : Cell)
+    → a ≡ cell_of sf lm 0x4000_0000 0x800_0000 0x100_0000 s.x
+    → b ≡ cell_of sf lm 0x2000_0000 0x400_0000 0x80_0000 s.y
+    → c ≡ cell_of sf lm 0x1000_0000 0x200_0000 0x40_0000 s.z
+    → line a b c ≡ line_of sf lm s
 unfolding cell_of line_of line_checks_at flags sum_flag
-joined sf lm s = simp (or_assoc, or_none)
+joined sf lm s a b c p q r = rw (p, q, r) (simp (or_assoc, or_none))
+
+-- a cell whose numbers are read back from their bits
+abbrev read : Cell → Cell
+read a = record { mac = to_z w32 (of_z w32 a.mac); ir = to_z w16 (of_z w16 a.ir); flag = a.flag }
 
 pub returns : goal.returns
 unfolding or
 returns c =
-    let is_a : (let g = c.args in c.finish_one-a.result ≡ cell_of g.sf g.lm 0x4000_0000 0x800_0000 0x100_0000 g.s.x) = rw (back w64 c.args.s.x c.struct_told-1.given.0.1) at c.finish_one-a.ensures in
-    let is_b : (let g = c.args in c.finish_one-b.result ≡ cell_of g.sf g.lm 0x2000_0000 0x400_0000 0x80_0000 g.s.y) = rw (back w64 c.args.s.y c.struct_told-2-1.given.1.0.1) at c.finish_one-b.ensures in
-    let is_c : (let g = c.args in c.finish_one-c.result ≡ cell_of g.sf g.lm 0x1000_0000 0x200_0000 0x40_0000 g.s.z) = rw (back w64 c.args.s.z c.struct_told-3-1.given.1.1.0.1) at c.finish_one-c.ensures in
-    rw (
-      back w32 c.finish_one-a.result.mac c.struct_told-4-1.given.0.1,
-      back w32 c.finish_one-b.result.mac c.struct_told-5-1.given.0.1,
-      back w32 c.finish_one-c.result.mac c.struct_told-6-1.given.0.1,
-      back w16 c.finish_one-a.result.ir c.struct_told-7-1.given.1.0.1,
-      back w16 c.finish_one-b.result.ir c.struct_told-8-1.given.1.0.1,
-      back w16 c.finish_one-c.result.ir c.struct_told-9-1.given.1.0.1,
-      is_a,
-      is_b,
-      is_c,
-    ) (joined c.args.sf c.args.lm c.args.s)
+    joined c.args.sf c.args.lm c.args.s (read c.finish_one-a.result) (read c.finish_one-b.result) (read c.finish_one-c.result)
+    (search rules) (search rules) (search rules)

@@ -19,7 +19,7 @@ returns-then-within c =
     let m = c.shift-m.result in
     let is_m : m ≡ shr_z a.x (scale a.sf) = rw (to_z-of_z c.ranges.x) at c.shift-m.ensures in
     let b = back w64 m c.shift-m.type_inv in
-    let clear : outside (lowest a.lm) (pos 0x7fff) (shr_z a.x (scale a.sf)) ≡ false = not-true _ (sym (rw (back w64 c.lowest_ir-low.result c.lowest_ir-low.type_inv, c.lowest_ir-low.ensures, b, is_m) at c.within.ensures) ∙ c.if-within.true) in
+    let clear : outside (lowest a.lm) (pos 0x7fff) (shr_z a.x (scale a.sf)) ≡ false = not-true _ (sym (rw (back w64 c.lowest_ir.result c.lowest_ir.type_inv, c.lowest_ir.ensures, b, is_m) at c.within.ensures) ∙ c.if-within.true) in
     let short : SFits w16 m = rw is_m (fit w16 (ir_mag a.lm _ clear) tt) in
     let word : SFits w32 m = rw is_m (fit w32 (ir_mag a.lm _ clear) tt) in
-    rw (b, to_z-of_z word, to_z-of_z short, is_m) (cell_plain a.sf a.lm a.over a.under a.bit a.x clear)
+    rw (b, to_z-of_z word, to_z-of_z short, is_m) (cell_plain a.sf a.lm a.bits.over a.bits.under a.bits.ir a.x clear)

@@ -1,11 +1,7 @@
--- The loop keeps that the blocks that are left give all of them.
-use Prim.Native.Nat.{◌-◌}
-use lib.ListN.{length}
+-- The loop keeps that the blocks of what is left give all of them.
+use Rattle.std.specs.Slice.Iter.{chunks_rest, chunks_size}
 use Rattle.saved_copy.proofs.Blocks.{Putting}
 use Rattle.saved_copy.proofs.put_blocks.Given as goal
 
-abbrev pub invariant-loop-done : goal.invariant-loop-done
-invariant-loop-done l = Putting l.initial.out l.out l.from l.at l.ram l.done
-
-abbrev pub decreases-loop-done : goal.decreases-loop-done
-decreases-loop-done l = length l.ram - l.done
+abbrev pub invariant-loop-block : goal.invariant-loop-block
+invariant-loop-block l = Putting l.initial.out l.out l.from l.at l.ram (chunks_rest l.block-iterator) (chunks_size l.block-iterator)

@@ -1,11 +1,10 @@
--- The loop keeps that the blocks that are left give all of RAM.
-use Prim.Native.Nat.{◌-◌}
-use lib.ListN.{length}
+-- The loop keeps that the blocks that are left give the rest of RAM.
+use Rattle.std.specs.Slice.Iter.{chunks_rest, chunks_size}
+use lib.ListN.{length, drop}
+use Rattle.saved_format.specs.Writing.{full_blocks, ram_in}
 use Rattle.saved_copy.proofs.Blocks.{Taking}
 use Rattle.saved_copy.proofs.take_blocks.Given as goal
 
-abbrev pub invariant-loop-ram : goal.invariant-loop-ram
-invariant-loop-ram l = Taking l.initial.ram l.ram l.file l.from l.at l.done
-
-abbrev pub decreases-loop-ram : goal.decreases-loop-ram
-decreases-loop-ram l = length l.ram - l.done
+abbrev pub invariant-loop-block : goal.invariant-loop-block
+invariant-loop-block l =
+    Taking l.initial.ram l.ram (ram_in (full_blocks (length l.initial.ram)) (length l.initial.ram) (drop l.from l.file)) (chunks_rest l.block-iterator) l.done (chunks_size l.block-iterator)

@@ -6,9 +6,9 @@ use Rattle.gte_depth.specs.Depth.{average_checks}
 use Rattle.gte_rows.proofs.Listings.{then}
 use Rattle.gte_causes.proofs.depth.list_average.Goals as goal
 
-pub returns-clause-is : goal.returns-clause-is
+pub returns : goal.returns
 unfolding average_checks
-returns-clause-is c = let f = to_z-of_z c.ranges.x in
-    let u = rw f at c.list_mac0-p.ensures.is in
-    let v = rw (back w64 c.shift_12.result c.shift_12.type_inv, c.shift_12.ensures, f) at c.list_depth.ensures.is in
+returns c = let f = to_z-of_z c.ranges.x in
+    let u = rw f at c.list_mac0.ensures in
+    let v = rw (back w64 c.shift_down.result c.shift_down.type_inv, c.shift_down.ensures, f) at c.list_depth.ensures in
     then u v

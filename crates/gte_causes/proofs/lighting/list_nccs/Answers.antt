@@ -5,7 +5,7 @@ use Rattle.gte_colour.proofs.CueingLines.{code}
 use Rattle.gte_rows.proofs.Listings.{then}
 use Rattle.gte_causes.proofs.lighting.list_nccs.Goals as goal
 
-pub returns-clause-is : goal.returns-clause-is
+pub returns : goal.returns
 unfolding line_checks_at normal_line
-returns-clause-is c = let v = rw (c.tones.ensures.is, c.normal_line-b.ensures, code c.args.c.now) at c.list_shade.ensures.is in
-    then c.list_normal-p.ensures.is v
+returns c = let v = rw (c.tones.ensures.is, c.normal_line.ensures, code c.args.c.now) at c.list_shade.ensures in
+    then c.list_normal.ensures v

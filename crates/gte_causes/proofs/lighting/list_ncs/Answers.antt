@@ -4,7 +4,7 @@ use Rattle.gte_lighting.specs.Normals.{ncs_checks, last_checks}
 use Rattle.gte_rows.proofs.Listings.{then}
 use Rattle.gte_causes.proofs.lighting.list_ncs.Goals as goal
 
-pub returns-clause-is : goal.returns-clause-is
+pub returns : goal.returns
 unfolding ncs_checks last_checks line_checks_at
-returns-clause-is c = let v = rw (c.back_sums.ensures.is, c.light_line-b.ensures) at c.list_last.ensures.is in
-    then c.list_normal-p.ensures.is v
+returns c = let v = rw (c.back_sums.ensures.is, c.light_line.ensures) at c.list_last.ensures in
+    then c.list_normal.ensures v

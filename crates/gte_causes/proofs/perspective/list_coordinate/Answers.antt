@@ -5,8 +5,8 @@ use Rattle.integers.specs.Bound.{back}
 use Rattle.gte_rows.proofs.Listings.{then}
 use Rattle.gte_causes.proofs.perspective.list_coordinate.Goals as goal
 
-pub returns-clause-is : goal.returns-clause-is
-returns-clause-is c = let f = to_z-of_z c.ranges.x in
-    let u = rw f at c.list_mac0-p.ensures.is in
-    let v = rw (back w64 c.shift_16.result c.shift_16.type_inv, c.shift_16.ensures, f) at c.list_screen.ensures.is in
+pub returns : goal.returns
+returns c = let f = to_z-of_z c.ranges.x in
+    let u = rw f at c.list_mac0.ensures in
+    let v = rw (back w64 c.shift_down.result c.shift_down.type_inv, c.shift_down.ensures, f) at c.list_screen.ensures in
     then u v

@@ -5,11 +5,11 @@ use Rattle.integers.specs.Bound.{back}
 use Rattle.gte_rows.proofs.Listings.{then}
 use Rattle.gte_causes.proofs.perspective.list_third.Goals as goal
 
-pub returns-clause-is : goal.returns-clause-is
-returns-clause-is c = let f = to_z-of_z c.ranges.x in
+pub returns : goal.returns
+returns c = let f = to_z-of_z c.ranges.x in
     let s = back w64 c.far-z.result c.far-z.type_inv in
     let z = rw f at c.far-z.ensures in
-    let u = rw f at c.list_sum-p.ensures.is in
-    let v = rw (s, z) at c.list_ir-q.ensures.is in
-    let w = rw (s, z) at c.list_depth.ensures.is in
+    let u = rw f at c.list_sum.ensures in
+    let v = rw (s, z) at c.list_ir.ensures in
+    let w = rw (s, z) at c.list_depth.ensures in
     then (then u v) w

@@ -2,6 +2,6 @@
 use Rattle.gte_perspective.specs.Vertices.{rotated}
 use Rattle.gte_causes.proofs.perspective.list_vertex.Goals as goal
 
-pub returns-clause-is : goal.returns-clause-is
+pub returns : goal.returns
 unfolding rotated
-returns-clause-is c = rw (c.product-s.ensures.is, c.rotation.ensures, c.translation.ensures, c.vector.ensures, c.camera.ensures) at c.list_projection.ensures.is
+returns c = rw (c.product-s.ensures.is, c.rotation.ensures, c.translation.ensures, c.vector.ensures, c.camera.ensures) at c.list_projection.ensures

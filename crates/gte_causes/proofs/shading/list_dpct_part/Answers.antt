@@ -2,6 +2,6 @@
 use Rattle.gte_shading.proofs.Queue.{place}
 use Rattle.gte_causes.proofs.shading.list_dpct_part.Goals as goal
 
-pub returns-clause-is : goal.returns-clause-is
-returns-clause-is c = let a = c.args in
-    rw (c.levels.ensures.is, place a.c.now a.k c.requires.1) at c.list_cue.ensures.is
+pub returns : goal.returns
+returns c = let a = c.args in
+    rw (c.levels.ensures.is, place a.c.now a.k c.requires.1) at c.list_cue.ensures

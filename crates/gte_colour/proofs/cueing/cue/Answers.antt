@@ -3,7 +3,7 @@ use mathlib.Core.Path.{◌≡◌}
 use mathlib.Core.Bool.{Bool}
 use mir.Syntax.{w16}
 use Rattle.integers.specs.Bound.{back}
-use Rattle.gte_arithmetic.specs.declared.values.Wide.{Wide}
+use Rattle.gte_arithmetic.specs.Triples.{Wide}
 use Rattle.gte_colour.specs.Shade.{mixed_of, shade_of}
 use Rattle.gte_inputs.specs.Inputs.{Inputs, inputs_of}
 use Rattle.gte_colour.specs.Cueing.{depth_cued}

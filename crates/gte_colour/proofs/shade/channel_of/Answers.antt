@@ -22,7 +22,7 @@ colour_byte m =
 
 pub returns-clause-is : goal.returns-clause-is
 unfolding cell_of or
-returns-clause-is c = let is_m : (let a = c.args in c.finish_one-m.result ≡ cell_of a.sf a.lm a.over a.under a.bit a.x) = rw (to_z-of_z c.ranges.x) at c.finish_one-m.ensures in
+returns-clause-is c = let is_m : (let a = c.args in c.finish_one-m.result ≡ cell_of a.sf a.lm a.bits.over a.bits.under a.bits.ir a.x) = rw (to_z-of_z c.ranges.x) at c.finish_one-m.ensures in
     let is_c : (let a = c.args in let m = mac_of a.sf a.x in c.limit_colour-c.result ≡ record { v = colour_of m; flag = raise (outside (pos 0) (pos 0xff) (shr_z m 16)) a.cut }) = rw (back w32 c.finish_one-m.result.mac c.struct_told-1.given.0.1, is_m) at c.limit_colour-c.ensures in
     rw (
       back w32 c.finish_one-m.result.mac c.struct_told-1.given.0.1,
@@ -33,6 +33,6 @@ returns-clause-is c = let is_m : (let a = c.args in c.finish_one-m.result ≡ ce
 
 pub returns-clause-small : goal.returns-clause-small
 unfolding cell_of or
-returns-clause-small c = let is_m : (let a = c.args in c.finish_one-m.result ≡ cell_of a.sf a.lm a.over a.under a.bit a.x) = rw (to_z-of_z c.ranges.x) at c.finish_one-m.ensures in
+returns-clause-small c = let is_m : (let a = c.args in c.finish_one-m.result ≡ cell_of a.sf a.lm a.bits.over a.bits.under a.bits.ir a.x) = rw (to_z-of_z c.ranges.x) at c.finish_one-m.ensures in
     let is_c : (let a = c.args in let m = mac_of a.sf a.x in c.limit_colour-c.result ≡ record { v = colour_of m; flag = raise (outside (pos 0) (pos 0xff) (shr_z m 16)) a.cut }) = rw (back w32 c.finish_one-m.result.mac c.struct_told-1.given.0.1, is_m) at c.limit_colour-c.ensures in
     rw is_c (colour_byte _)

@@ -10,7 +10,7 @@ use Rattle.integers.specs.Clamp.{outside}
 use Rattle.gte_arithmetic.specs.Checks.{or, raise, flags}
 use Rattle.gte_arithmetic.specs.Values.{mac_of, ir_of, colour_of, sum_flag}
 use Rattle.gte_line.specs.Line.{cell_of}
-use Rattle.gte_arithmetic.specs.declared.values.Wide.{Wide}
+use Rattle.gte_arithmetic.specs.Triples.{Wide}
 use Rattle.gte_arithmetic.proofs.Flags.{or_assoc, or_none}
 use Rattle.gte_colour.specs.Shade.{colour_word, shade_checks, shade_of}
 use Rattle.gte_colour.specs.declared.shade.Channel.{Channel}

@@ -1,5 +1,6 @@
 -- The line of the differences, whose IR times IR0 is added to each value.
 use mathlib.Core.Path.{◌≡◌}
+use borrow.Author.Rules.{rules}
 use mathlib.Core.Bool.{false}
 use Prim.Native.Nat.{◌*◌, ◌^◌}
 use mir.Syntax.{w16, w64}
@@ -16,7 +17,7 @@ returns-clause-is c = let is_l : (let a = c.args in c.finish-l.result ≡ line_o
     let l = is_l in
     let f = to_z-of_z c.ranges.f in
     let v = three {n = 3 * 2 ^ 43} tt tt
-    (rw (back w16 c.finish-l.result.ir.x c.struct_told-1.given.0.1, f, back w64 c.args.s.x c.struct_told-2-1.given.0.1, l) at c.toward_one.ensures.is, c.toward_one.ensures.small)
-    (rw (back w16 c.finish-l.result.ir.y c.struct_told-3-1.given.1.0.1, f, back w64 c.args.s.y c.struct_told-4-1.given.1.0.1, l) at c.toward_one-2.ensures.is, c.toward_one-2.ensures.small)
-    (rw (back w16 c.finish-l.result.ir.z c.struct_told-5-1.given.1.1.0.1, f, back w64 c.args.s.z c.struct_told-6-1.given.1.1.0.1, l) at c.toward_one-3.ensures.is, c.toward_one-3.ensures.small) in
+    (rw (back w16 c.finish-l.result.ir.x (search rules), f, back w64 c.args.s.x (search rules), l) at c.toward_one.ensures.is, c.toward_one.ensures.small)
+    (rw (back w16 c.finish-l.result.ir.y (search rules), f, back w64 c.args.s.y (search rules), l) at c.toward_one-2.ensures.is, c.toward_one-2.ensures.small)
+    (rw (back w16 c.finish-l.result.ir.z (search rules), f, back w64 c.args.s.z (search rules), l) at c.toward_one-3.ensures.is, c.toward_one-3.ensures.small) in
     rw (v.0, l)

@@ -1,10 +1,9 @@
 -- The halves of two words, whose place is twice the number of the vector.
+use borrow.Author.Rules.{rules}
 use mathlib.Core.Path.{◌≡◌, refl}
 use mathlib.Core.List.{List}
 use Prim.Native.Nat.{ℕ, zero, suc, ◌*◌, ◌<◌}
 use native.Mathlib.Omega.{arith}
-use mir.Syntax.{w16}
-use Rattle.integers.specs.Bound.{back}
 use Rattle.gte_inputs.specs.Inputs.{vector_of, inputs_of, normal}
 use Rattle.gte_inputs.proofs.vectors.vector.Goals as goal
 
@@ -17,14 +16,4 @@ placed (suc (suc (suc n))) w h = absurd (omega arith)
 
 pub returns : goal.returns
 unfolding vector_of
-returns c =
-    let a = c.args in
-    rw (
-      placed a.k a.c.now c.requires,
-      back w16 c.low_half.result c.low_half.type_inv,
-      back w16 c.high_half.result c.high_half.type_inv,
-      back w16 c.low_half-2.result c.low_half-2.type_inv,
-      c.low_half.ensures,
-      c.high_half.ensures,
-      c.low_half-2.ensures,
-    )
+returns c = rw (placed c.args.k c.args.c.now c.requires) (search rules)

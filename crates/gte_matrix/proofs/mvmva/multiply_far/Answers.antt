@@ -8,7 +8,7 @@ use Rattle.integers.specs.Parts.{Mag, pos_part, neg_part, zarith, no_lt}
 use Rattle.gte_arithmetic.specs.Checks.{or, flags}
 use Rattle.gte_line.specs.Line.{line_with, line_of, line_checks, line_checks_at}
 use Rattle.gte_sums.specs.Sums.{Bounded, product_of}
-use Rattle.gte_arithmetic.specs.declared.values.Wide.{Wide}
+use Rattle.gte_arithmetic.specs.Triples.{Wide}
 use Rattle.gte_arithmetic.proofs.Flags.{or_assoc, or_none, none_or, or_left_comm}
 use Rattle.gte_matrix.specs.Multiply.{thirds_of, sum_flags, far_checks, far_of}
 use Rattle.gte_matrix.proofs.mvmva.multiply_far.Goals as goal

@@ -4,7 +4,7 @@ use mir.Syntax.{w64}
 use Rattle.integers.specs.Bound.{back}
 use Rattle.gte_arithmetic.specs.Checks.{or, flags}
 use Rattle.gte_arithmetic.specs.Values.{sum_flag}
-use Rattle.gte_arithmetic.specs.declared.values.Wide.{Wide}
+use Rattle.gte_arithmetic.specs.Triples.{Wide}
 use Rattle.gte_arithmetic.proofs.Flags.{or_assoc, or_none}
 use Rattle.gte_matrix.specs.Multiply.{sum_flags}
 use Rattle.gte_matrix.proofs.mvmva.sum_flags.Goals as goal

@@ -3,4 +3,4 @@ use Rattle.gte_registers.proofs.Taking.{all_taken}
 use Rattle.gte_registers.proofs.view.reads_of.Goals as goal
 
 pub returns : goal.returns
-returns c = rw (c.take_controls.ensures, c.take_queues.ensures, c.take_inputs.ensures) (all_taken _ c.sized.ensures)
+returns c = rw (c.take_controls.ensures, c.take_queues.ensures, c.take_inputs.ensures) (all_taken _ c.told-g)

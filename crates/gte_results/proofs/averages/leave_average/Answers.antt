@@ -10,4 +10,4 @@ pub returns : goal.returns
 unfolding average_left flagged
 returns c =
     let g = c.args in
-    rw (c.to_bits.ensures, back w32 g.a.mac0 c.struct_told-1.given.0.1) (average_view g.a g.c.now c.sized.ensures)
+    rw (c.to_bits.ensures, back w32 g.a.mac0 c.struct_told-1.given.0.1) (average_view g.a g.c.now c.told-c)

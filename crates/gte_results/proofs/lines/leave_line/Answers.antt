@@ -5,4 +5,4 @@ use Rattle.gte_results.proofs.lines.leave_line.Goals as goal
 
 pub returns : goal.returns
 unfolding line_left flagged
-returns c = rw c.store.ensures (line_view c.args.l c.args.c.now c.sized.ensures)
+returns c = rw c.store.ensures (line_view c.args.l c.args.c.now c.told-c)

@@ -6,4 +6,4 @@ use Rattle.gte_results.proofs.shades.leave_shade.Goals as goal
 
 pub returns : goal.returns
 unfolding flagged shade_left
-returns c = rw (c.store.ensures, c.push_colour.ensures) (shade_view c.args.s c.args.c.now c.sized.ensures)
+returns c = rw (c.store.ensures, c.push_colour.ensures) (shade_view c.args.s c.args.c.now c.told-c)

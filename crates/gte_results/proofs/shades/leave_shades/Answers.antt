@@ -9,4 +9,4 @@ pub returns : goal.returns
 unfolding or flagged shades_left
 returns c =
     let a = c.args in
-    rw (c.store.ensures, c.push_colour-3.ensures, c.push_colour-2.ensures, c.push_colour.ensures) (shades_view a.p a.q a.r a.c.now c.sized.ensures)
+    rw (c.store.ensures, c.push_colour-3.ensures, c.push_colour-2.ensures, c.push_colour.ensures) (shades_view a.p a.q a.r a.c.now c.told-c)

@@ -7,4 +7,4 @@ pub returns : goal.returns
 unfolding vertex_left
 returns c =
     let a = c.args in
-    rw (c.keep_vertex.ensures, c.push_vertex.ensures) (vertex_view a.v a.c.now c.sized.ensures)
+    rw (c.keep_vertex.ensures, c.push_vertex.ensures) (vertex_view a.v a.c.now c.told-c)

@@ -10,4 +10,4 @@ returns c =
       c.push_vertex-3.ensures,
       c.push_vertex-2.ensures,
       c.push_vertex.ensures,
-    ) (vertices_view a.p a.q a.r a.flag a.c.now c.sized.ensures)
+    ) (vertices_view a.p a.q a.r a.flag a.c.now c.told-c)

@@ -1,7 +1,0 @@
--- The three words at register 25.
-use Rattle.gte_inputs.specs.Inputs.{inputs_of}
-use Rattle.gte_inputs.proofs.vectors.macs.Goals as goal
-
-pub returns : goal.returns
-unfolding inputs_of
-returns c = c.long.ensures
