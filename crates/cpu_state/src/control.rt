@@ -5,8 +5,8 @@ ghost use Rattle.cpu_state.specs.System.{user_of, usable_of, read_system_of, wri
 use cpu_alu::mul_div::HiLo;
 use cpu_decode::owners::Owner;
 
-// PC, next PC, and 1 after a jump or branch. slot is a word and no bool: it is word 38 of the image, which a host may set to any
-// number.
+// PC, next PC, and 1 after a jump or branch. slot is a word and no bool: it is word 38 of the image, and `read_image` promises
+// the words as they stand, well formed or not.
 #[derive(Clone, Copy)]
 pub struct Flow {
     pub pc: u32,

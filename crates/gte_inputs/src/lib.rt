@@ -1,5 +1,5 @@
 // What commands read of the 64 words. Carries 01 "COP2 registers" for commands: signed halves, H unsigned, the three matrices.
-// Each place that commands read has a function of its own, over one that takes a number: callers name registers.
+// Each place that commands read has a function of its own, where there are several alike over one that takes a number: callers name registers.
 
 #![tactic(auto)]
 

@@ -5,8 +5,8 @@ ghost use Rattle.gte_registers.specs.Taken.{taken};
 
 use crate::reads::read;
 
-// Vectors, OTZ and IR as reads return them. Here and below each register is a literal, and no loop over a list: of `read` the
-// compiler then keeps one arm.
+// Vectors, OTZ and IR as reads return them. Here and below each register is named, as `taken` names it: a loop over a list
+// would need an invariant and be no plainer.
 fn take_inputs(g: &[u32; 64], r: &mut [u32; 64])
     ensures { r.new ≡ taken (1 ∷ 3 ∷ 5 ∷ 7 ∷ 8 ∷ 9 ∷ 10 ∷ 11 ∷ []) (view g.now) r.old }
 {

@@ -6,7 +6,8 @@ ghost use Rattle.gte_results.specs.ShadeEffects.{pushed_colour, shade_left, shad
 use crate::lines::store;
 use gte_arithmetic::values::Shade;
 
-// The queue moves by words named here, as in `push_xy` and `push_z`: one function over a place and a length would be a loop.
+// The queue moves by words named here, as in `push_xy` and `push_z`: one function over a place and a length would need a clause on both,
+// and be no plainer.
 #[tactic(auto, unfolding(crate::specs::ShadeEffects::pushed_colour))]
 fn push_colour(c: &mut [u32; 64], rgb: u32)
     ensures { c.new ≡ pushed_colour rgb c.old }

@@ -94,7 +94,7 @@ fn another(file: &[u8], at: usize, next: usize) -> bool
     next - at == 32771 && next < file.len() && file[next] == 3
 }
 
-// Tag 3, the blocks of RAM, and what follows them.
+// Tag 3, the blocks of RAM, and what follows them. No `for`: where the next block begins is known only behind the field before it.
 #[tactic(auto, using(crate::proofs::Judging::judging))]
 fn ram_at(file: &[u8], from: usize) -> Result<(), Malformed>
     requires { from ≤ length file.now }
