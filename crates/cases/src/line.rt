@@ -1,4 +1,5 @@
 // The lines of standard input.
+ghost use Rattle.std.specs.Prelude.{◌<◌};
 
 // How many bytes a line has, its end included.
 pub(crate) const LENGTH: usize = 20;
@@ -29,7 +30,9 @@ fn number(digits: &[u8]) -> u32 {
 }
 
 // The value of a digit; 0 for any other byte, capital letters too.
-fn digit(b: u8) -> u32 {
+fn digit(b: u8) -> u32
+    ensures { result < 16 }
+{
     match b {
         b'0'..=b'9' => u32::from(b - b'0'),
         b'a'..=b'f' => u32::from(b - b'a' + 10),

@@ -1,3 +1,3 @@
 mod Checked
-mod Quotient
-mod Product
+pub mod Quotient
+pub mod Product

@@ -18,7 +18,7 @@ ghost use Rattle.fliskadee.specs.Parts.{part_number};
 use answer::{Answer, Refusal};
 use causes::list_causes;
 use draw_list::check_list;
-use image::admission::{read_image, refusal};
+use image::admission::{read_image, run_refusal};
 use image::bytes::write_image;
 use memory::addresses::Virt;
 use run::{End, run_until};
@@ -37,7 +37,7 @@ fn run_with(
     ensures most { IfOk result (λ x. x.1 ≤ most_steps) }
 {
     let a = read_image(image);
-    refusal(a.refusal, ram, pad, count)?;
+    run_refusal(a.refusal, ram, pad, count)?;
     let mut r = a.registers;
     let mut g = a.geometry;
     let d = run_until(a.control, &mut r, &mut g, ram, pad, count, mask);

@@ -25,13 +25,17 @@ use gte_rows::rows::Rows;
 use gte_sums::transform::product;
 use words::shifts::shift_down;
 
-// Line 5 or 6: MAC0, and SX or SY.
+// Line 5 or 6: MAC0, and SX or SY. Their bits are 16 at most: for a higher one nothing is tested, here and on line 7.
 fn list_coordinate(rows: &mut Rows<'_>, bit: u32, line: u32, x: i64)
-    requires { rows.old.count + 15 ≤ 65536 }
+    requires { (rows.old.count + 15 ≤ 65536) × (bit ≤ 16) }
     ensures { ListsMost 15 (mac0_checks line x (screen_check bit line (shr_z x 65536) ∷ [])) rows.old rows.new }
 {
+    let coordinate = shift_down::<16>(x);
+    if 16 < rows.wanted.bit {
+        return;
+    }
     rows.list_mac0(line, x);
-    rows.list_screen(bit, line, shift_down::<16>(x));
+    rows.list_screen(bit, line, coordinate);
 }
 
 // Line 7: MAC0 and IR0.
@@ -39,8 +43,12 @@ fn list_cue_factor(rows: &mut Rows<'_>, x: i64)
     requires { rows.old.count + 15 ≤ 65536 }
     ensures { ListsMost 15 (mac0_checks 7 x (factor_check 7 (shr_z x 4096) ∷ [])) rows.old rows.new }
 {
+    let factor = shift_down::<12>(x);
+    if 16 < rows.wanted.bit {
+        return;
+    }
     rows.list_mac0(7, x);
-    rows.list_factor(7, shift_down::<12>(x));
+    rows.list_factor(7, factor);
 }
 
 // The exact values of lines 5 to 7.
@@ -77,12 +85,15 @@ fn far(x: i64) -> i64
     shift_down::<12>(w.v)
 }
 
-// Lines 3 and 4: bits 22 and 18 test Z.
+// Lines 3 and 4: bits 22 and 18 test Z. No bit of theirs is below 18.
 fn list_third(rows: &mut Rows<'_>, x: i64)
     requires { (rows.old.count + 20 ≤ 65536) × Mag x (3 * 2 ^ 43) }
     ensures { ListsMost 20 (sum_checks 3 3 x (ir_check 3 3 false (far_of x) ∷ depth_check 4 (far_of x) ∷ [])) rows.old rows.new }
 {
     let z = far(x);
+    if rows.wanted.bit < 18 {
+        return;
+    }
     rows.list_sum(3, 3, x);
     rows.list_ir(3, 3, z, false);
     rows.list_depth(4, z);

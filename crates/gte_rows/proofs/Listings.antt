@@ -4,7 +4,7 @@ use mathlib.Core.List.{List, [], ◌∷◌, ◌++◌}
 use mathlib.Core.Path.{◌≡◌, refl, sym, ap, ◌∙◌, subst}
 use Prim.Native.Nat.{ℕ, suc, ◌+◌, ◌<◌, ◌≤◌}
 use native.Mathlib.Omega.{arith}
-use borrow.Author.Tests.{le-leb, lt-leb}
+use borrow.Author.Tests.{le-leb, lt-leb, ne_eqb}
 use lib.ListN.{length, set}
 use Rattle.gte_arithmetic.specs.Checks.{Check}
 use Rattle.gte_rows.specs.Rows.{Row, row_of, caused, causes, Whole, AllWhole, none, more}
@@ -87,3 +87,13 @@ pub one : {k : ℕ} (c : Check) (s t : Rows)
 unfolding causes
 one c s t h e m =
     record { lists = record { rows = record { is = e ∙ lone (caused s.wanted.bit c) (row_of s.wanted.part c) (listed s) }; whole = more h none }; most = m }
+
+-- ---- checks of bits that are not asked for
+pub none_left : {k : ℕ} (s : Rows) → ListsMost k [] s s
+unfolding causes
+none_left s = record { lists = record { rows = no_rows (listed s); whole = none }; most = record { count = omega arith; wanted = refl; words = refl } }
+
+pub past : {k : ℕ} {c : Check} {cs : List Check} {s t : Rows} → (c.bit ≡ s.wanted.bit → ⊥) → Whole c.test → ListsMost k cs s t → ListsMost k (c ∷ cs) s t
+unfolding causes
+past {k} {c} {cs} {s} {t} h w l =
+    record { lists = record { rows = rw (ne_eqb c.bit s.wanted.bit h) l.lists.rows; whole = more w l.lists.whole }; most = l.most }

@@ -9,8 +9,11 @@ use crate::rows::Rows;
 use gte_arithmetic::limits::lowest_ir;
 use gte_arithmetic::mac::{store_mac, within};
 
+// Every method here is made a part of its caller: a question for causes goes through some of them thousands of times, and took half as
+// long again where they were called.
 impl Rows<'_> {
     // A value above its range.
+    #[inline(always)]
     fn list_above(&mut self, bit: u32, line: u32, v: i64, hi: i64)
         requires { self.old.count + 5 ≤ 65536 }
         ensures { ListsMost 5 (check bit line (above v hi) ∷ []) self.old self.new }
@@ -19,6 +22,7 @@ impl Rows<'_> {
     }
 
     // A value below its range.
+    #[inline(always)]
     fn list_below(&mut self, bit: u32, line: u32, v: i64, lo: i64)
         requires { self.old.count + 5 ≤ 65536 }
         ensures { ListsMost 5 (check bit line (below v lo) ∷ []) self.old self.new }
@@ -27,6 +31,7 @@ impl Rows<'_> {
     }
 
     // A value outside of its range.
+    #[inline(always)]
     fn list_beyond(&mut self, bit: u32, line: u32, v: i64, lo: i64, hi: i64)
         requires { self.old.count + 5 ≤ 65536 }
         ensures { ListsMost 5 (check bit line (beyond v lo hi) ∷ []) self.old self.new }
@@ -35,6 +40,7 @@ impl Rows<'_> {
     }
 
     // Bit 17: H and SZ3.
+    #[inline(always)]
     pub fn list_division(&mut self, line: u32, h: u32, sz: u32)
         requires { (self.old.count + 5 ≤ 65536) × (sz ≤ 65535) }
         ensures { ListsMost 5 (division_check line h sz ∷ []) self.old self.new }
@@ -43,6 +49,7 @@ impl Rows<'_> {
     }
 
     // A sum for MAC k.
+    #[inline(always)]
     pub fn list_sum(&mut self, k: u32, line: u32, x: i64)
         requires { (self.old.count + 10 ≤ 65536) × (k ≤ 3) }
         ensures { ListsMost 10 (sum_checks k line x []) self.old self.new }
@@ -52,6 +59,7 @@ impl Rows<'_> {
     }
 
     // A value for MAC0.
+    #[inline(always)]
     pub fn list_mac0(&mut self, line: u32, x: i64)
         requires { self.old.count + 10 ≤ 65536 }
         ensures { ListsMost 10 (mac0_checks line x []) self.old self.new }
@@ -61,6 +69,7 @@ impl Rows<'_> {
     }
 
     // IR k from a value. It is stored MAC, but of the third line of RTPS and RTPT.
+    #[inline(always)]
     pub fn list_ir(&mut self, k: u32, line: u32, m: i64, lm: bool)
         requires { (self.old.count + 5 ≤ 65536) × (k ≤ 3) }
         ensures { ListsMost 5 (ir_check k line lm m ∷ []) self.old self.new }
@@ -69,6 +78,7 @@ impl Rows<'_> {
     }
 
     // Colour k from stored MAC.
+    #[inline(always)]
     fn list_colour(&mut self, k: u32, line: u32, m: i32)
         requires { (self.old.count + 5 ≤ 65536) × (k ≤ 3) }
         ensures { ListsMost 5 (colour_check k line m ∷ []) self.old self.new }
@@ -77,6 +87,7 @@ impl Rows<'_> {
     }
 
     // SZ3 or OTZ.
+    #[inline(always)]
     pub fn list_depth(&mut self, line: u32, z: i64)
         requires { self.old.count + 5 ≤ 65536 }
         ensures { ListsMost 5 (depth_check line z ∷ []) self.old self.new }
@@ -85,6 +96,7 @@ impl Rows<'_> {
     }
 
     // SX or SY.
+    #[inline(always)]
     pub fn list_screen(&mut self, bit: u32, line: u32, x: i64)
         requires { self.old.count + 5 ≤ 65536 }
         ensures { ListsMost 5 (screen_check bit line x ∷ []) self.old self.new }
@@ -93,6 +105,7 @@ impl Rows<'_> {
     }
 
     // IR0.
+    #[inline(always)]
     pub fn list_factor(&mut self, line: u32, x: i64)
         requires { self.old.count + 5 ≤ 65536 }
         ensures { ListsMost 5 (factor_check line x ∷ []) self.old self.new }
@@ -101,15 +114,22 @@ impl Rows<'_> {
     }
 
     // A sum x on line l, and on line i the IR of the MAC that y is stored as. MVMVA with FC tests one value and stores another.
+    #[inline(always)]
     pub fn list_cell(&mut self, k: u32, l: u32, i: u32, x: i64, y: i64, sf: bool, lm: bool)
         requires { (self.old.count + 15 ≤ 65536) × (k ≤ 3) × Mag y (3 * 2 ^ 43) }
         ensures { ListsMost 15 (sum_checks k l x (ir_check k i lm (mac_of sf y) ∷ [])) self.old self.new }
     {
+        let m = i64::from(store_mac(y, sf, 0, 0).v);
+        // The bits of a sum and an IR are 30 to 22.
+        if self.wanted.bit < 22 {
+            return;
+        }
         self.list_sum(k, l, x);
-        self.list_ir(k, i, i64::from(store_mac(y, sf, 0, 0).v), lm);
+        self.list_ir(k, i, m, lm);
     }
 
     // On line i the IR and the colour of the MAC that x is stored as.
+    #[inline(always)]
     pub fn list_end(&mut self, k: u32, i: u32, x: i64, sf: bool, lm: bool)
         requires { (self.old.count + 10 ≤ 65536) × (k ≤ 3) × Mag x (3 * 2 ^ 43) }
         ensures { ListsMost 10 (ir_check k i lm (mac_of sf x) ∷ colour_check k i (mac_of sf x) ∷ []) self.old self.new }
@@ -120,6 +140,7 @@ impl Rows<'_> {
     }
 
     // The same after the sum's own tests on line l.
+    #[inline(always)]
     pub fn list_channel(&mut self, k: u32, l: u32, i: u32, x: i64, sf: bool, lm: bool)
         requires { (self.old.count + 20 ≤ 65536) × (k ≤ 3) × Mag x (3 * 2 ^ 43) }
         ensures { ListsMost 20 (sum_checks k l x (ir_check k i lm (mac_of sf x) ∷ colour_check k i (mac_of sf x) ∷ [])) self.old self.new }

@@ -40,17 +40,22 @@ impl Rows<'_> {
     }
 
     // The row of a check that fails, where its bit is wanted.
+    #[inline(always)]
     pub(crate) fn list_check(&mut self, bit: u32, line: u32, low: u32, high: u32, fails: bool)
         requires { self.old.count + 5 ≤ 65536 }
         ensures is { listed self.new ≡ cond (eqb bit self.old.wanted.bit && fails) (add_row (row_for self.old bit line low high) (listed self.old)) (listed self.old) }
         ensures most { Most 5 self.old self.new }
     {
-        if bit == self.wanted.bit && fails {
+        if bit != self.wanted.bit {
+            return;
+        }
+        if fails {
             self.add_row(bit, line, low, high);
         }
     }
 
     // The same with a signed value in two words.
+    #[inline(always)]
     pub(crate) fn list_value(&mut self, bit: u32, line: u32, v: i64, fails: bool)
         requires { self.old.count + 5 ≤ 65536 }
         ensures is { listed self.new ≡ cond (eqb bit self.old.wanted.bit && fails) (add_row (row_for self.old bit line (low_of v) (high_of v)) (listed self.old)) (listed self.old) }

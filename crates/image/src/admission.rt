@@ -99,7 +99,7 @@ pub fn memory_refusal(ram: usize, pad: usize) -> Result<(), Refusal>
 
 // The run's refusal: that of its image, else for RAM's length, the pad's or the count.
 #[tactic(auto, using(answer::proofs::Codes::has_code), unfolding(crate::specs::Refusals::refusal_after, crate::specs::Refusals::first_of))]
-pub fn refusal(
+pub fn run_refusal(
     image: Result<(), Refusal>,
     ram: &[u8],
     pad: &[u8],
@@ -118,4 +118,18 @@ pub fn refusal(
         return Err(Refusal::Count);
     }
     Ok(())
+}
+
+// The same in numbers, after any code of the image's, one that no refusal has too; 0 where none applies.
+#[tactic(auto, unfolding(crate::specs::Refusals::refusal_after))]
+pub fn refusal(image: u64, ram: &[u8], pad: &[u8], count: u64) -> u64
+    ensures { result ≡ refusal_after image (memory ram.now pad.now) count }
+{
+    if image != 0 {
+        return image;
+    }
+    match run_refusal(Ok(()), ram, pad, count) {
+        Ok(()) => 0,
+        Err(e) => e.code(),
+    }
 }

@@ -7,13 +7,15 @@ ghost use Rattle.std.proofs.lemmas.List.Edits.{sets};
 ghost use Rattle.saved_format.specs.Format.{field};
 ghost use Rattle.saved_format.specs.Writing.{full_blocks, blocks_of, ram_in, blocks_length};
 
-// All of src, stored from a place on.
-#[tactic(auto, using(crate::proofs::Copying::copy_is))]
+// All of src, stored from a place on. With `copy_from_slice` the library for C would call memmove, and it calls memcpy and nothing else.
+#[tactic(auto, using(crate::proofs::Copying::copying_none, crate::proofs::Copying::copying_more, crate::proofs::Copying::copying_all))]
 pub fn copy(dst: &mut [u8], at: usize, src: &[u8])
     requires { at + length src.now ≤ length dst.old }
     ensures { dst.new ≡ sets dst.old at src.now }
 {
-    dst[at..at + src.len()].copy_from_slice(src);
+    for (i, &byte) in src.iter().enumerate() {
+        dst[at + i] = byte;
+    }
 }
 
 // A field stored from a place on.
