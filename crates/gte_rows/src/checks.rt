@@ -9,11 +9,10 @@ use crate::rows::Rows;
 use gte_arithmetic::limits::lowest_ir;
 use gte_arithmetic::mac::{store_mac, within};
 
-// Every method here is made a part of its caller: a question for causes goes through some of them thousands of times, and took half as
-// long again where they were called.
+// Six methods are made parts of their callers: a question for causes goes through them thousands of times, and took up to half as long again
+// where they were called.
 impl Rows<'_> {
     // A value above its range.
-    #[inline(always)]
     fn list_above(&mut self, bit: u32, line: u32, v: i64, hi: i64)
         requires { self.old.count + 5 ≤ 65536 }
         ensures { ListsMost 5 (check bit line (above v hi) ∷ []) self.old self.new }
@@ -22,7 +21,6 @@ impl Rows<'_> {
     }
 
     // A value below its range.
-    #[inline(always)]
     fn list_below(&mut self, bit: u32, line: u32, v: i64, lo: i64)
         requires { self.old.count + 5 ≤ 65536 }
         ensures { ListsMost 5 (check bit line (below v lo) ∷ []) self.old self.new }
@@ -31,7 +29,6 @@ impl Rows<'_> {
     }
 
     // A value outside of its range.
-    #[inline(always)]
     fn list_beyond(&mut self, bit: u32, line: u32, v: i64, lo: i64, hi: i64)
         requires { self.old.count + 5 ≤ 65536 }
         ensures { ListsMost 5 (check bit line (beyond v lo hi) ∷ []) self.old self.new }
@@ -40,7 +37,6 @@ impl Rows<'_> {
     }
 
     // Bit 17: H and SZ3.
-    #[inline(always)]
     pub fn list_division(&mut self, line: u32, h: u32, sz: u32)
         requires { (self.old.count + 5 ≤ 65536) × (sz ≤ 65535) }
         ensures { ListsMost 5 (division_check line h sz ∷ []) self.old self.new }
@@ -59,7 +55,6 @@ impl Rows<'_> {
     }
 
     // A value for MAC0.
-    #[inline(always)]
     pub fn list_mac0(&mut self, line: u32, x: i64)
         requires { self.old.count + 10 ≤ 65536 }
         ensures { ListsMost 10 (mac0_checks line x []) self.old self.new }
@@ -87,7 +82,6 @@ impl Rows<'_> {
     }
 
     // SZ3 or OTZ.
-    #[inline(always)]
     pub fn list_depth(&mut self, line: u32, z: i64)
         requires { self.old.count + 5 ≤ 65536 }
         ensures { ListsMost 5 (depth_check line z ∷ []) self.old self.new }
@@ -96,7 +90,6 @@ impl Rows<'_> {
     }
 
     // SX or SY.
-    #[inline(always)]
     pub fn list_screen(&mut self, bit: u32, line: u32, x: i64)
         requires { self.old.count + 5 ≤ 65536 }
         ensures { ListsMost 5 (screen_check bit line x ∷ []) self.old self.new }
@@ -105,7 +98,6 @@ impl Rows<'_> {
     }
 
     // IR0.
-    #[inline(always)]
     pub fn list_factor(&mut self, line: u32, x: i64)
         requires { self.old.count + 5 ≤ 65536 }
         ensures { ListsMost 5 (factor_check line x ∷ []) self.old self.new }

@@ -40,7 +40,6 @@ impl Rows<'_> {
     }
 
     // The row of a check that fails, where its bit is wanted.
-    #[inline(always)]
     pub(crate) fn list_check(&mut self, bit: u32, line: u32, low: u32, high: u32, fails: bool)
         requires { self.old.count + 5 ≤ 65536 }
         ensures is { listed self.new ≡ cond (eqb bit self.old.wanted.bit && fails) (add_row (row_for self.old bit line low high) (listed self.old)) (listed self.old) }
@@ -55,7 +54,6 @@ impl Rows<'_> {
     }
 
     // The same with a signed value in two words.
-    #[inline(always)]
     pub(crate) fn list_value(&mut self, bit: u32, line: u32, v: i64, fails: bool)
         requires { self.old.count + 5 ≤ 65536 }
         ensures is { listed self.new ≡ cond (eqb bit self.old.wanted.bit && fails) (add_row (row_for self.old bit line (low_of v) (high_of v)) (listed self.old)) (listed self.old) }
