@@ -9,8 +9,8 @@ use crate::rows::Rows;
 use gte_arithmetic::limits::lowest_ir;
 use gte_arithmetic::mac::{store_mac, within};
 
-// Six methods are made parts of their callers: a question for causes goes through them thousands of times, and took up to half as long again
-// where they were called.
+// Six methods are made parts of their callers: a question for causes goes 38 times through a command's checks, and took up to 1.6 times as
+// long where they were called.
 impl Rows<'_> {
     // A value above its range.
     fn list_above(&mut self, bit: u32, line: u32, v: i64, hi: i64)
